@@ -21,19 +21,19 @@ use Rattle.state.proofs.RefusalLaws.{refusal-formed}
 use Rattle.accept.specs.Accept.{accept_refusal, accept_table}
 use Rattle.state.proofs.AnswerLaws.{if_accepted-old}
 
-module _ (s : State) (t : List ℕ) (well : well_formed s t ≡ true) (c : Certificate) (a r : ℕ) (from : 0 < r) (to : r ≤ s.settings.ceiling.0)
+module _ (s : State) (t : List ℕ) (well : well_formed s t ≡ true) (c : Certificate) (a r : ℕ) (from : 0 < r) (to : r ≤ s.settings.ceiling)
     (held : held_at t a r ≡ true) (e : content_of c.proposal ≡ content_at t a r) (other : contains c.endorsers a ≡ false) where
   by-rules : refusal (rules.accepting s.settings (view s t) (content_at t a r) c.endorsers) ≡ 16
   by-rules =
       let f = formed s t well in
-      let w = (rows-held t s.settings.allowance s.blocks s.settings.ceiling.0 f.rows r from to).records a held in
+      let w = (rows-held t s.settings.allowance s.blocks s.settings.ceiling f.rows r from to).records a held in
       let m = held-member t a r held in
       passes 4 _ (rw (content-author t a r) (le-ltb 15 a (omega arith)))
-      ∙ passes 5 _ (rw (content-round t a r) (bad_over s.settings r (λ z. omega arith) ∙ le-ltb s.settings.ceiling.0 r to))
+      ∙ passes 5 _ (rw (content-round t a r) (bad_over s.settings r (λ z. omega arith) ∙ le-ltb s.settings.ceiling r to))
       ∙ passes 6 _ (transactions-fit w)
       ∙ passes 7 _ (rw (content-round t a r) (previous-fits w))
       ∙ passes 14 _ (rw (content-author t a r) other)
-      ∙ refuses 16 _ (ap₂ (λ (x y : ℕ). is_same (content_at t a r) ((view s t).dag x y)) (content-author t a r) (content-round t a r) ∙ same-dag s.settings.ceiling.0 t a r from to (content_at t a r) ∙ rw (held, content_self (content_at t a r)) refl)
+      ∙ refuses 16 _ (ap₂ (λ (x y : ℕ). is_same (content_at t a r) ((view s t).dag x y)) (content-author t a r) (content-round t a r) ∙ same-dag s.settings.ceiling t a r from to (content_at t a r) ∙ rw (held, content_self (content_at t a r)) refl)
 
   copy_refusal : accept_refusal s t c ≡ 16
   unfolding accept_refusal

@@ -20,7 +20,7 @@ module _ (s : State) (t : List ℕ) where
   pub record AcceptPassed (c : Certificate) : Type 0 where
     pub formed : Formed s t
     pub fits : FormFits s c.proposal
-    pub free : held_at t c.proposal.author.0 c.proposal.round.0 ≡ false
+    pub free : held_at t c.proposal.author.0 c.proposal.round ≡ false
     pub not_among : contains c.endorsers c.proposal.author.0 ≡ false
 
   pub accept-passed : (c : Certificate) → accept_refusal s t c ≡ 0 → AcceptPassed c
@@ -30,10 +30,10 @@ module _ (s : State) (t : List ℕ) where
       let n = refusal-passed s t (rules.accept (content_of p) c.endorsers) e in
       passed _ refl n.1 λ h4 h5 h6 h7 h14 h16 h17 h8 h9 h13 h11.
       let a = ltb-false 15 p.author.0 h4 in
-      let r = round-fits s.settings p.round.0 h5 in
+      let r = round-fits s.settings p.round h5 in
       record {
         formed = formed s t n.0;
-        fits = record { author = omega arith; from = r.0; to = r.1; body = body-fits s.settings.allowance p.round.0 p.body h6 h7 };
-        free = sym (held-dag s.settings.ceiling.0 t p.author.0 p.round.0 r.0 r.1) ∙ h17;
+        fits = record { author = omega arith; from = r.0; to = r.1; body = body-fits s.settings.allowance p.round p.body h6 h7 };
+        free = sym (held-dag s.settings.ceiling t p.author.0 p.round r.0 r.1) ∙ h17;
         not_among = h14;
       }

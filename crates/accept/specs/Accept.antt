@@ -16,4 +16,4 @@ module _ (s : State) (t : List ℕ) where
   accept_table c =
       if_accepted (accept_refusal c)
       (clear_endorsed (put_certificate t (content_of c.proposal) c.endorsers)
-      c.proposal.author.0 c.proposal.round.0) t
+      c.proposal.author.0 c.proposal.round) t

@@ -2,9 +2,10 @@
 
 ghost use Rattle.std.specs.Prelude.{◌≡◌, true, ◌≤◌, ◌<◌, OnOk};
 ghost use Rattle.base.specs.Checks.{refusal};
+ghost use Rattle.base.specs.Sets.{contains};
 ghost use Rattle.terms.specs.Proposals.{content_of};
 ghost use Rattle.rules.specs.Calls.{accepting};
-ghost use Rattle.rules.specs.Tests.{is_same};
+ghost use Rattle.rules.specs.Tests.{is_same, signers_of};
 ghost use Rattle.refusals.specs.Refusals.{refusal_in};
 ghost use Rattle.state.specs.Cached.{Cached};
 ghost use Rattle.state.specs.SharedChecks.{FormFits};
@@ -18,29 +19,45 @@ use state::State;
 use terms::{Certificate, Proposal};
 
 // Check 16: is the same certificate held?
+#[tactic(auto, using(crate::proofs::AdmissionRules::same))]
 fn holds_same(view: &View, proposal: Proposal) -> bool
     requires place { proposal.author.0 < 16 }
-    requires from { 0 < proposal.round.0 }
-    requires to { proposal.round.0 ≤ (settings_of view.now).ceiling.0 }
+    requires from { 0 < proposal.round }
+    requires to { proposal.round ≤ (settings_of view.now).ceiling }
     ensures { result
-        ≡ is_same (content_of proposal) ((shown view.now).dag proposal.author.0 proposal.round.0) }
+        ≡ is_same (content_of proposal) ((shown view.now).dag proposal.author.0 proposal.round) }
 {
     store::held(view.table, proposal.author, proposal.round)
         && store::record::is_same(view.table, proposal)
 }
 
-/// The checks of a well-formed state, in this order: 4, 5, 6, 7, 14, 16, 17, 8, 9, 13, 11.
-#[tactic(auto, unfolding(base::specs::Checks::refusal, rules::specs::Tests::signers_of))]
-pub(crate) fn check(view: &View, certificate: Certificate) -> Result<(), Refusal>
-    ensures refusal { refusal_in result
-        ≡ refusal (accepting (settings_of view.now) (shown view.now)
-        (content_of certificate.proposal) certificate.endorsers) }
-    ensures fits { OnOk result (FormFits view.now.state.now certificate.proposal) }
+// Check 14: is the author among the endorsers?
+fn is_signed_twice(proposal: &Proposal, endorsers: u32) -> bool
+    requires { proposal.now.author.0 < 16 }
+    ensures { result ≡ contains endorsers proposal.now.author.0 }
 {
-    let proposal = certificate.proposal;
-    let endorsers = certificate.endorsers as u32;
+    base::contains(endorsers, proposal.author.0)
+}
+
+// The author and the endorsers.
+#[tactic(auto, unfolding(rules::specs::Tests::signers_of))]
+fn signers(proposal: &Proposal, endorsers: u32) -> u32
+    requires { proposal.now.author.0 < 16 }
+    ensures { result ≡ signers_of (content_of proposal.now) endorsers }
+{
+    base::insert(endorsers, proposal.author.0)
+}
+
+/// The checks of a well-formed state, in this order: 4, 5, 6, 7, 14, 16, 17, 8, 9, 13, 11.
+#[tactic(auto, unfolding(base::specs::Checks::refusal))]
+pub(crate) fn check(view: &View, proposal: Proposal, endorsers: u32) -> Result<(), Refusal>
+    ensures refusal { refusal_in result
+        ≡ refusal (accepting (settings_of view.now) (shown view.now) (content_of proposal)
+        endorsers) }
+    ensures fits { OnOk result (FormFits view.now.state.now proposal) }
+{
     view.check_form(proposal)?;
-    if base::contains(endorsers, proposal.author.0) {
+    if is_signed_twice(&proposal, endorsers) {
         return Err(Refusal::SignedTwice);
     }
     if holds_same(view, proposal) {
@@ -52,7 +69,7 @@ pub(crate) fn check(view: &View, certificate: Certificate) -> Result<(), Refusal
     if view.is_unknown(proposal.round) {
         return Err(Refusal::CommitteeUnknown);
     }
-    let signers = base::insert(endorsers, proposal.author.0);
+    let signers = signers(&proposal, endorsers);
     let committee = view.committee(proposal.round);
     if committee.has_outsider(signers) {
         return Err(Refusal::Outside);
@@ -67,27 +84,30 @@ pub(crate) fn check(view: &View, certificate: Certificate) -> Result<(), Refusal
 }
 
 // Will the checks ask for a committee that is not cached, and that some block changes?
-fn asks_committee(view: &View, certificate: Certificate) -> bool
-    ensures { result ≡ true → certificate.proposal.round.0 ≤ (settings_of view.now).ceiling.0 }
+fn asks_committee(view: &View, certificate: &Certificate) -> bool
+    ensures { result ≡ true → certificate.now.proposal.round ≤ (settings_of view.now).ceiling }
 {
     let proposal = certificate.proposal;
-    if cache::is_cached(view.cache, view.state.settings.ceiling, proposal.round)
+    let author = proposal.author;
+    let round = proposal.round;
+    if cache::is_cached(view.cache, view.state.settings.ceiling, round)
         || view.check_form(proposal).is_err()
     {
         return false;
     }
-    !base::contains(certificate.endorsers as u32, proposal.author.0)
-        && !view.is_held(proposal.author, proposal.round)
-        && !view.is_unknown(proposal.round)
-        && !bonded::is_starting(view.chain(), proposal.round)
+    !base::contains(certificate.endorsers as u32, author.0)
+        && !view.is_held(author, round)
+        && !view.is_unknown(round)
+        && !bonded::is_starting(view.chain(), round)
 }
 
 /// Caches committees from the round of a certificate on, as far as there is room, where the checks will ask for one that is not there.
-pub fn cache_committees(
+#[tactic(auto, using(crate::proofs::AdmissionRules::cached))]
+pub fn cache_committees<'a>(
     formed: bool,
-    state: &State,
-    table: &[u32],
-    certificate: Certificate,
+    state: &'a State,
+    table: &'a [u32],
+    certificate: &Certificate,
     cache: &mut [u64],
 )
     requires { Cached state.now table.now formed cache.old }

@@ -31,20 +31,26 @@ pub fn accept_cached(
     ensures refusal { refusal_in result ≡ accept_refusal state.now table.old certificate }
     ensures table { table.new ≡ accept_table state.now table.old certificate }
 {
-    admission::check(&View::known(formed, cache, state, table)?, certificate)?;
     let proposal = certificate.proposal;
-    writes::put_certificate(table, proposal, certificate.endorsers);
+    let endorsers = certificate.endorsers;
+    admission::check(
+        &View::known(formed, cache, state, table)?,
+        proposal,
+        endorsers as u32,
+    )?;
+    writes::put_certificate(table, proposal, endorsers);
     clearing::clear_endorsed(table, proposal.author, proposal.round);
     Ok(())
 }
 
 /// Holds a certificate with its endorsers, and clears its endorsed mark.
+#[tactic(auto, using(crate::proofs::AdmissionRules::cached_far))]
 pub fn accept(state: &State, table: &mut [u32], certificate: Certificate) -> Result<(), Refusal>
     ensures refusal { refusal_in result ≡ accept_refusal state.now table.old certificate }
     ensures table { table.new ≡ accept_table state.now table.old certificate }
 {
     let formed = state::well_formed(state, table);
     let mut cache = [cache::NO_ROUND; cache::ONE_ROUND];
-    admission::cache_committees(formed, state, table, certificate, &mut cache);
+    admission::cache_committees(formed, state, table, &certificate, &mut cache);
     accept_cached(formed, &cache, state, table, certificate)
 }

@@ -12,7 +12,7 @@ ghost use Rattle.terms.specs.declared.Certificate.{Certificate};
 /// In a well-formed state a later copy of a held certificate, with whatever endorsers, its author not among them, is refused with 16 and changes nothing.
 pub fn copy_still()
     ensures { (s : State) (t : List ℕ) → well_formed s t ≡ true → (c : Certificate) (a r : ℕ)
-        → 0 < r → r ≤ s.settings.ceiling.0 → held_at t a r ≡ true
+        → 0 < r → r ≤ s.settings.ceiling → held_at t a r ≡ true
         → content_of c.proposal ≡ content_at t a r → contains c.endorsers a ≡ false
         → (accept_refusal s t c ≡ 16) × (accept_table s t c ≡ t) }
 {}

@@ -2,7 +2,7 @@
 use Rattle.std.proofs.Common.{◌≡◌, sym, ◌∙◌, subst, subst₂, Bool, true, List, [], inl, ℕ, Some}
 use Rattle.std.proofs.lemmas.Option.{none-some}
 use mathlib.Core.List.Memᴰ
-use native.Mathlib.Decide.{ℕ_discrete}
+use Rattle.base.proofs.Words.{ℕ_discrete}
 use Rattle.agreement.specs.Rules.{Block, Chain, Rules}
 use Rattle.agreement.specs.Laws.{Lawful}
 use Rattle.agreement.specs.View.{View, Knows, World, Log}
@@ -116,11 +116,14 @@ module _ {R : Rules} (correct : ℕ → Bool) where
   blocks_stay r i n = block-stays (chains_grow r i) n
 
   module _ {start w : World R} {G : Log R} (Y : Lawful R) (x : Start correct start) (r : Run correct start (unsigned R) w G) where
+    pub is_sound : Sound correct w G
+    is_sound = sound (sound-start Y x) r
+
     -- the chains of correct members never fork
     pub never_fork : Agree correct w
-    never_fork = (sound (sound-start Y x) r).agree
+    never_fork = is_sound.agree
 
     -- correct members who know a round know the same committee
-    pub committees-agree : (i j n : ℕ) → correct i ≡ true → correct j ≡ true → Knows (w i) n → Knows (w j) n
+    pub committees_agree : (i j n : ℕ) → correct i ≡ true → correct j ≡ true → Knows (w i) n → Knows (w j) n
         → committee (w i).chain n ≡ committee (w j).chain n
-    committees-agree i j n ci cj k l = committee_agreement (sound (sound-start Y x) r) ci cj k l
+    committees_agree i j n ci cj k l = committee_agreement is_sound ci cj k l

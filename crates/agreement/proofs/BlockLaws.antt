@@ -1,6 +1,6 @@
 -- A computed block holds what of its anchor's history is in no block before it.
 use Rattle.std.proofs.Common.{◌≡◌, refl, sym, ap, ◌∙◌, subst, Bool, true, false, not, ◌&&◌, ◌||◌, cond, true≢false, [], ◌∷◌, inl, inr, ℕ, ◌+◌, ◌≤◌, ◌<◌, Option, Some, None}
-use mathlib.Core.Bool.{false≢true, or-true}
+use Rattle.base.proofs.Words.{false≢true, or-true}
 use Rattle.std.proofs.lemmas.Option.{same_Some, none-some}
 use Rattle.agreement.specs.Rules.{Chain, last, Rules}
 use Rattle.agreement.specs.View.{View}

@@ -1,7 +1,7 @@
 -- The computed chain is one that a commit may make, so a computed commit is a move.
 use Rattle.std.proofs.Common.{◌≡◌, refl, sym, ◌∙◌, subst, Bool, true, false, cond, true≢false, List, [], ◌∷◌, ℕ, zero, suc, ◌+◌, ◌-◌, ◌≤◌, ◌<◌, arith, Option, Some, None}
 use Rattle.std.proofs.lemmas.Option.{same_Some, none-some}
-use native.Mathlib.Decide.{ℕ_discrete}
+use Rattle.base.proofs.Words.{ℕ_discrete}
 use Rattle.agreement.specs.Rules.{Chain, last, Rules}
 use Rattle.agreement.specs.Laws.{Lawful}
 use Rattle.agreement.specs.View.{View, Knows, Log}

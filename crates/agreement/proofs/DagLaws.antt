@@ -1,6 +1,6 @@
 -- Histories stay among the held certificates, and two views that hold a certificate see one history of it.
 use Rattle.std.proofs.Common.{◌≡◌, refl, sym, ap, ◌∙◌, Bool, true, false, true≢false, ℕ, Option, Some, None}
-use mathlib.Core.Bool.{false≢true}
+use Rattle.base.proofs.Words.{false≢true}
 use Rattle.agreement.specs.Rules.{Rules}
 use Rattle.agreement.specs.View.{View, Log}
 use Rattle.agreement.specs.Dag.{is_held, vote, Held, Placed, Reach, here, back}

@@ -12,7 +12,7 @@ use Rattle.agreement.specs.Prefixes.{◌≼◌, same, grown}
 use Rattle.agreement.specs.Invariants.{PreviousQuorum, Signable, Ordering, Certified, Storing}
 use Rattle.agreement.specs.Moves.{Extension, first_block, next_block, Move, other_call, propose, endorse, certify, accept, advance, commit}
 use Rattle.agreement.proofs.WeightLaws.{weigh_mono}
-use Rattle.agreement.proofs.KnownCommittees.{known-stays, committee-stays}
+use Rattle.agreement.proofs.KnownCommittees.{known_stays, committee_stays}
 use Rattle.agreement.proofs.DagLaws.{vote-by, Compatible, at_place, carry}
 use Rattle.agreement.proofs.PlaceLaws.{put-old}
 
@@ -31,10 +31,10 @@ module _ {R : Rules} (Y : Lawful R) {s t : View R} (g : Grows s t) where
   alike-back = record { alike = λ {a} {r} {p} {q} h k. same_Some p q (sym h ∙ g.dag k) }
 
   knows_grows : {r : ℕ} → Knows s r → Knows t r
-  knows_grows k = known-stays Y g.chain k
+  knows_grows k = known_stays Y g.chain k
 
   stays : {r : ℕ} → Knows s r → committee t.chain r ≡ committee s.chain r
-  stays k = committee-stays Y g.chain k
+  stays k = committee_stays Y g.chain k
 
   pub closed-grows : {p : P} → Closed s p → Closed t p
   closed-grows f m a e n = let h = f m a e n in (h.0, g.dag h.1)

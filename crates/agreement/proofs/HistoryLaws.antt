@@ -1,7 +1,7 @@
 -- The computed history is the history.
 use Rattle.std.proofs.Common.{◌≡◌, refl, sym, ◌∙◌, subst, Bool, true, false, ◌&&◌, true≢false, ℕ, zero, suc, ◌+◌, ◌-◌, ◌≤◌, ◌<◌, arith, eqb, leb, eqb-true, eq-eqb, leb-true, le-leb, Some}
 use Rattle.std.proofs.lemmas.Option.{same_Some}
-use borrow.Author.Tests.{lt-leb}
+use Rattle.base.proofs.Words.{lt-leb}
 use Rattle.base.proofs.Bools.{both}
 use Rattle.base.specs.Folds.{any_to}
 use Rattle.base.proofs.TestLaws.{any_true, true_any}

@@ -1,7 +1,7 @@
 -- In a sound world, linked chains with an elected top are prefixes of one another, whichever correct members see them so.
 use Rattle.std.proofs.Common.{◌≡◌, refl, sym, ap, ap₂, ◌∙◌, subst, Bool, true, [], ◌∷◌, inl, inr, ◌≢◌, ℕ, ◌≤◌, ◌<◌, le_antisymm, arith, Some}
 use Rattle.std.proofs.lemmas.Option.{same_Some}
-use native.Mathlib.Decide.{ℕ_discrete, dec_le}
+use Rattle.base.proofs.Words.{ℕ_discrete, dec_le}
 use Rattle.base.proofs.Options.{option_ext}
 use Rattle.agreement.specs.Rules.{Block, Chain, last, Rules}
 use Rattle.agreement.specs.View.{View, Knows, World, Log}

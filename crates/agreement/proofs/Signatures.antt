@@ -1,6 +1,6 @@
 -- Each move keeps what holds of a member's signatures.
 use Rattle.std.proofs.Common.{◌≡◌, sym, ap, ◌∙◌, subst, Bool, true, false, List, ◌∷◌, ◌⊎◌, inl, inr, ◌≢◌, ℕ, suc, ◌<◌, arith, Some, None}
-use mathlib.Core.Bool.{false≢true}
+use Rattle.base.proofs.Words.{false≢true}
 use Rattle.std.proofs.lemmas.Option.{same_Some, none-some}
 use mathlib.Core.List.Memᴰ
 use Rattle.agreement.specs.Rules.{Rules}

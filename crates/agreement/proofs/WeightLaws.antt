@@ -1,6 +1,6 @@
 -- Laws of weights: a set and its outside, larger sets, and sets that meet.
 use Rattle.std.proofs.Common.{◌≡◌, refl, sym, ◌∙◌, Bool, true, false, not, cond, ℕ, ◌+◌, ◌*◌, ◌≤◌, ◌<◌, arith}
-use mathlib.Core.Bool.{false≢true}
+use Rattle.base.proofs.Words.{false≢true}
 use Rattle.base.proofs.SumLaws.{sum_same, sum_add, sum_at, sum_less, sum_mono}
 use Rattle.agreement.specs.Weights.{weigh, total, outside}
 use Rattle.agreement.specs.Quorum.{Common}

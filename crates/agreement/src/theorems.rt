@@ -30,6 +30,7 @@ pub trait AnyMachines {
 }
 
 /// Two quorums of a committee, in which the faulty members weigh at most the bound, have a correct member in common.
+#[tactic(auto, using(crate::proofs::QuorumIntersection::quorums_meet))]
 pub fn quorums_meet<R: AnyRules>()
     ensures { Lawful R.rules → (w : ℕ → ℕ) (S T correct : ℕ → Bool) → Tolerant R.rules correct w
         → 0 < total R.rules.size w → Quorum R.rules w S → Quorum R.rules w T
@@ -37,6 +38,7 @@ pub fn quorums_meet<R: AnyRules>()
 {}
 
 /// A committee that a chain tells stays as it is when the chain grows, and stays known.
+#[tactic(auto, using(crate::proofs::KnownCommittees::known_stays, crate::proofs::KnownCommittees::committee_stays))]
 pub fn committees_stay<R: AnyRules>()
     ensures known { Lawful R.rules → (c d : Chain R.rules.P) (r : ℕ) → c ≼ d
         → R.rules.known c r ≡ true → R.rules.known d r ≡ true }
@@ -45,6 +47,7 @@ pub fn committees_stay<R: AnyRules>()
 {}
 
 /// The history that an engine computes, round by round downwards, is the history: the certificate and, repeatedly, held certificates that are named as previous.
+#[tactic(auto, using(crate::proofs::HistoryLaws::history_reach, crate::proofs::HistoryLaws::reach_history))]
 pub fn history_is_reached<R: AnyRules>()
     ensures reached { (s : View R.rules) → Placed s → (x : R.rules.P) → Held s x → (r a : ℕ)
         → in_history s x r a ≡ true → (q : R.rules.P) × (s.dag a r ≡ Some q) × Reach s x q }
@@ -53,18 +56,21 @@ pub fn history_is_reached<R: AnyRules>()
 {}
 
 /// The invariants hold in every world of a run.
+#[tactic(auto, using(crate::proofs::Agreement::is_sound))]
 pub fn sound<R: AnyRules>()
     ensures { (correct : ℕ → Bool) (start w : World R.rules) (G : Log R.rules) → Lawful R.rules
         → Start correct start → Run correct start (λ (i : ℕ). []) w G → Sound correct w G }
 {}
 
 /// Of two correct members' chains one is a prefix of the other, in every world of a run.
+#[tactic(auto, using(crate::proofs::Agreement::never_fork))]
 pub fn never_fork<R: AnyRules>()
     ensures { (correct : ℕ → Bool) (start w : World R.rules) (G : Log R.rules) → Lawful R.rules
         → Start correct start → Run correct start (λ (i : ℕ). []) w G → Agree correct w }
 {}
 
 /// Correct members who know a round know the same committee.
+#[tactic(auto, using(crate::proofs::Agreement::committees_agree))]
 pub fn committees_agree<R: AnyRules>()
     ensures { (correct : ℕ → Bool) (start w : World R.rules) (G : Log R.rules) → Lawful R.rules
         → Start correct start → Run correct start (λ (i : ℕ). []) w G
@@ -73,12 +79,14 @@ pub fn committees_agree<R: AnyRules>()
 {}
 
 /// Between any two worlds of a run a chain only grows.
+#[tactic(auto, using(crate::proofs::Agreement::chains_grow))]
 pub fn chains_grow<R: AnyRules>()
     ensures { (correct : ℕ → Bool) (w v : World R.rules) (G H : Log R.rules) → Run correct w G v H
         → (i : ℕ) → (w i).chain ≼ (v i).chain }
 {}
 
 /// So a block once made stays, with its number, its round and its certificates.
+#[tactic(auto, using(crate::proofs::Agreement::blocks_stay))]
 pub fn blocks_stay<R: AnyRules>()
     ensures { (correct : ℕ → Bool) (w v : World R.rules) (G H : Log R.rules) → Run correct w G v H
         → (i n : ℕ) (b : Block R.rules.P) → block_numbered (w i).chain n ≡ Some b
@@ -92,6 +100,7 @@ pub fn listed_alike<R: AnyRules>()
 {}
 
 /// Over any list of calls of machines, of two correct members' chains one is a prefix of the other.
+#[tactic(auto, using(crate::proofs::MachineAgreement::machines_never_fork))]
 pub fn machines_never_fork<M: AnyMachines>()
     ensures { (start : ℕ → M.machine.State) → Lawful M.rules
         → ((i : ℕ) → M.correct i ≡ true → M.machine.Good i (start i))
@@ -101,6 +110,7 @@ pub fn machines_never_fork<M: AnyMachines>()
 {}
 
 /// Their committees are alike.
+#[tactic(auto, using(crate::proofs::MachineAgreement::machines_committees))]
 pub fn machines_committees<M: AnyMachines>()
     ensures { (start : ℕ → M.machine.State) → Lawful M.rules
         → ((i : ℕ) → M.correct i ≡ true → M.machine.Good i (start i))

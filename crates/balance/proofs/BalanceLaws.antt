@@ -28,7 +28,7 @@ module _ (e : Engine) (r : Intact e) where
   S = e.state.settings
 
   abbrev n : ℕ
-  n = S.ceiling.0
+  n = S.ceiling
 
   abbrev t : List ℕ
   t = e.table

@@ -1,7 +1,7 @@
 -- The journal of a well-formed state: its blocks are of rounds that rise, and its transactions are in range.
 use Rattle.std.proofs.Common.{◌≡◌, refl, Bool, true, false, not, cond, List, [], ◌∷◌, ◌++◌, ℕ, zero, suc, ◌+◌, ◌%◌, ◌<◌, ◌≤◌, arith, add-one, length, eqb, ltb, Option, Some, None}
 use Rattle.std.proofs.lemmas.Option.{none-some}
-use borrow.Author.Tests.{not-false}
+use Rattle.base.proofs.Words.{not-false}
 use Rattle.base.proofs.Bools.{both, neither}
 use Rattle.agreement.specs.Rules.{Block, Chain}
 use Rattle.terms.specs.declared.Transaction.{Transaction}
@@ -72,7 +72,7 @@ module _ (b : Block Content) (f : (a r : ℕ) (p : Content) → b.holds a r ≡ 
   fit-rows a (suc n) = rw (rows_more b a n) (fit_append (rows b a n) (row b a (suc n) 16) (fit-rows a n) (row-fit a (suc n) 16))
 
   ordered-fit : (S : Settings) (c : Chain Content) → Fit (ordered S b c)
-  ordered-fit S c = rw (ordered-rows S b c) (fit-rows (start_of S b c) S.ceiling.0)
+  ordered-fit S c = rw (ordered-rows S b c) (fit-rows (start_of S b c) S.ceiling)
 
 module _ (t : List ℕ) (allowance blocks n : ℕ) (fit : rows_fit t allowance blocks n ≡ true) where
   -- the transactions of a held record

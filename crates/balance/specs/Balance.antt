@@ -16,7 +16,7 @@ start e = weight_in e.state.settings.weights
 
 -- the first k blocks of an engine's chain, and the whole chain where k is the number of its blocks
 abbrev pub chain_to : Engine → ℕ → Chain Content
-chain_to e k = chain_of e.state.settings.ceiling.0 e.table k
+chain_to e k = chain_of e.state.settings.ceiling e.table k
 
 -- their transactions, newest first
 abbrev pub transactions_to : Engine → ℕ → List Transaction

@@ -1,8 +1,6 @@
 -- Laws of folds and lists over the numbers below a bound.
 use Rattle.std.proofs.Common.{◌≡◌, refl, ap, sym, ◌∙◌, List, [], ◌∷◌, ◌++◌, ℕ, zero, suc, ◌+◌, ◌<◌, ◌≤◌, arith, add-one, length, get_or, length-append}
-use native.Mathlib.Decide.{ℕ_discrete}
-use lib.ListN.{get_or-append}
-use lib.Seq.{get_or-append_seam}
+use Rattle.base.proofs.Words.{ℕ_discrete, get_or-append, get_or-append_seam}
 use Rattle.base.specs.Folds.{fold_to, tab}
 use Rattle.std.proofs.lemmas.List.FromFn.{fill_by_all}
 use Rattle.base.proofs.Ranges.{fold_none, fold_next, tab_none, tab_next}

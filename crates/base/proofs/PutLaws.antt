@@ -1,6 +1,6 @@
 -- Laws of what is put into a list from a place on: the rest of the list stays as it was.
 use Rattle.std.proofs.Common.{◌≡◌, refl, ◌∙◌, List, [], ◌∷◌, ◌++◌, ℕ, suc, ◌+◌, ◌≤◌, arith, add-zero, add-suc, suc-add, length, set, length-append}
-use lib.Seq.{sets}
+use Rattle.base.proofs.Words.{sets}
 use Rattle.base.specs.Puts.{Puts}
 
 -- i of n rounds of a loop have put bytes, and the buffer kept its length

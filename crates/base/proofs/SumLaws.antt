@@ -1,6 +1,6 @@
 -- Laws of sums over the numbers below a bound.
 use Rattle.std.proofs.Common.{◌≡◌, refl, sym, ap, ◌∙◌, cond, ◌≢◌, ℕ, zero, suc, ◌+◌, ◌*◌, ◌%◌, ◌<◌, ◌≤◌, arith, suc-mul, add-one, eqb, eq-eqb, ne_eqb}
-use native.Mathlib.Decide.{ℕ_discrete, dec_lt}
+use Rattle.base.proofs.Words.{ℕ_discrete, dec_lt}
 use Rattle.base.specs.Folds.{sum_to}
 use Rattle.base.proofs.Ranges.{sum_none, sum_next}
 

@@ -1,7 +1,6 @@
 -- Laws of tests over the numbers below a bound.
 use Rattle.std.proofs.Common.{◌≡◌, refl, sym, ◌∙◌, Bool, true, false, not, ◌&&◌, ◌||◌, true≢false, le_refl, ℕ, zero, suc, ◌<◌, ◌≤◌, arith}
-use mathlib.Core.Bool.{and_comm, or-true, false≢true}
-use native.Mathlib.Decide.{ℕ_discrete}
+use Rattle.base.proofs.Words.{and_comm, or-true, false≢true, ℕ_discrete}
 use Rattle.base.proofs.Bools.{both}
 use Rattle.base.specs.Folds.{all_to, any_to}
 use Rattle.base.proofs.Ranges.{all_none, all_next, any_none, any_next}

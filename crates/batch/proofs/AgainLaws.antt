@@ -47,7 +47,7 @@ module _ (s : State) (low : (own_body s).previous < 65536) (row : Row) (reads : 
   proposal = content_of c.proposal
 
   abbrev round : ℕ
-  round = c.proposal.round.0
+  round = c.proposal.round
 
   -- ---- the turn of q
 
@@ -109,7 +109,7 @@ module _ (s : State) (low : (own_body s).previous < 65536) (row : Row) (reads : 
                   (accept-frozen s.settings s.own.0 round then_eleven.from (view s table_then) (view s table_now) k.frozen (content_of d.proposal) d.endorsers not_before brought);
             }
           where
-            not_before : round ≤ d.proposal.round.0
+            not_before : round ≤ d.proposal.round
             not_before =
                 let h = round-of-earlier keys q p now-later in
                 let a = ap (λ (z : Key). z.round) (reads.keyed q c offered) in
@@ -139,13 +139,13 @@ module _ (s : State) (low : (own_body s).previous < 65536) (row : Row) (reads : 
       (turns_keep (table_after s row) Kept turn.latter table_then turn-kept (record { its_formed = then-formed; frozen = frozen_same s.settings (Later s row t q) round (view s table_then) }))
 
   left-held : is_held ((view s table_left).dag proposal.author round) ≡ held_at table_left proposal.author round
-  left-held = held-dag s.settings.ceiling.0 table_left proposal.author round then_eleven.from then_eleven.to
+  left-held = held-dag s.settings.ceiling table_left proposal.author round then_eleven.from then_eleven.to
 
   -- where the place of c is held, it was filled
   filled-by : Filled s.settings (Later s row t q) round (view s table_then) ((view s table_left).dag proposal.author round) → (i : ℕ) × (d : Certificate) × FilledBy s row t q c i d
   filled-by f =
       let y = f.by in
-      let d = in_dag s.settings.ceiling.0 table_left proposal.author round f.content f.held in
+      let d = in_dag s.settings.ceiling table_left proposal.author round f.content f.held in
       let n = not_same s.settings round (view s table_then) proposal f.content then_eleven.lacks f.whole in (
         y.place,
         y.certificate,

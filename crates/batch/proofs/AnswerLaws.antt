@@ -1,6 +1,6 @@
 -- Laws of what turns leave and answer: over parts of a list and at a place's own turn.
 use Rattle.std.proofs.Common.{◌≡◌, refl, sym, ap, ◌∙◌, subst, Bool, true, false, cond, List, [], ◌∷◌, ◌++◌, ℕ, ◌+◌, ◌<◌, arith, eqb, eq-eqb, eqb-true}
-use native.Mathlib.Decide.{dec_lt}
+use Rattle.base.proofs.Words.{dec_lt}
 use Rattle.batch.specs.Turns.{Key, leaves, answer_to}
 use Rattle.batch.specs.Order.{times, earlier, EarlierThan, InOrder, OneTurnEach}
 

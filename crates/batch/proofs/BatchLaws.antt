@@ -1,8 +1,6 @@
 -- Laws of a batch: what one turn leaves and all turns leave, what an accepted batch has passed, and rows of none and of one.
 use Rattle.std.proofs.Common.{◌≡◌, refl, sym, ap, ◌∙◌, subst, true, not, ◌||◌, List, [], ◌∷◌, ◌≢◌, ℕ, ◌<◌, ◌≤◌, arith, length, drop, ltb, ltb-false, Option, Some, None}
-use native.Mathlib.Decide.{ℕ_discrete}
-use lib.Seq.{paste, paste-zero}
-use borrow.Author.Tests.{not-false}
+use Rattle.base.proofs.Words.{ℕ_discrete, paste, paste-zero, not-false}
 use Rattle.base.specs.Options.{if_there}
 use Rattle.base.specs.Folds.{tab}
 use Rattle.base.proofs.Bools.{neither}

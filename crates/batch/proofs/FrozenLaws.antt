@@ -1,7 +1,6 @@
 -- On views: what accepts of later rounds leave alone, and so a certificate that got 11 gets 11 again, or 17 where its place is filled.
 use Rattle.std.proofs.Common.{◌≡◌, refl, sym, ap, ◌∙◌, Bool, true, false, not, ◌&&◌, cond, true≢false, ◌⊎◌, inl, inr, [], ◌∷◌, ◌++◌, ℕ, ◌-◌, ◌<◌, ◌≤◌, arith, take, eqb, eq-eqb, Option, Some, None}
-use native.Mathlib.Decide.{ℕ_discrete}
-use borrow.Author.Tests.{not-true}
+use Rattle.base.proofs.Words.{ℕ_discrete, not-true}
 use Rattle.base.proofs.Bools.{both}
 use Rattle.base.proofs.TestLaws.{any_same}
 use Rattle.base.specs.Checks.{Checks, refusal}
@@ -53,7 +52,7 @@ module _ (S : Settings) where
   -- so its round is in range, its place is free, and a previous certificate is missing
   pub record Eleven (v : MemberView S) (p : Content) : Type 0 where
     pub from : 0 < p.round
-    pub to : p.round ≤ S.ceiling.0
+    pub to : p.round ≤ S.ceiling
     pub free : is_held (v.dag p.author p.round) ≡ false
     pub lacks : above p.round (missing S v p) ≡ true
 

@@ -24,15 +24,15 @@ module _ (s : State) (row : Row) (t : List ℕ) where
     pub later : earlier (λ p. (row.at p).key) q i ≡ true
     pub accepted : answer_at s row t i ≡ 0
     pub same_author : d.proposal.author.0 ≡ c.proposal.author.0
-    pub same_round : d.proposal.round.0 ≡ c.proposal.round.0
-    pub held : content_at (tried_table s row t) c.proposal.author.0 c.proposal.round.0
+    pub same_round : d.proposal.round ≡ c.proposal.round
+    pub held : content_at (tried_table s row t) c.proposal.author.0 c.proposal.round
         ≡ content_of d.proposal
     pub another : same_proposal (content_of c.proposal) (content_of d.proposal) ≡ false
 
   -- c, offered again on the table that the batch left, gets 17 exactly where its place is held then, by another of the row, and 11 else
   pub record AgainAs (q : ℕ) (c : Certificate) : Type 0 where
     pub number : accept_refusal s (tried_table s row t) c
-        ≡ (if held_at (tried_table s row t) c.proposal.author.0 c.proposal.round.0
+        ≡ (if held_at (tried_table s row t) c.proposal.author.0 c.proposal.round
         then 17 else 11)
-    pub filled : held_at (tried_table s row t) c.proposal.author.0 c.proposal.round.0 ≡ true
+    pub filled : held_at (tried_table s row t) c.proposal.author.0 c.proposal.round ≡ true
         → (i : ℕ) × (d : Certificate) × FilledBy q c i d

@@ -17,7 +17,7 @@ pub record Offer : Type 0 where
   pub certificate : Option Certificate
 
 abbrev pub key_of : Certificate → Key
-key_of c = record { round = c.proposal.round.0; author = c.proposal.author.0 }
+key_of c = record { round = c.proposal.round; author = c.proposal.author.0 }
 
 -- a row of so many
 pub record Row : Type 0 where

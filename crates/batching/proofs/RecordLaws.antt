@@ -1,7 +1,7 @@
 -- Laws of a record's words: put piece by piece, and what they give of a row.
 use Rattle.std.proofs.Common.{◌≡◌, refl, sym, ap, ◌∙◌, Bool, true, false, cond, List, [], ◌∷◌, ◌++◌, ℕ, ◌+◌, arith, length, get_or, length-append, Some, None}
 use Rattle.std.proofs.lemmas.Option.{same_Some, none-some}
-use lib.Seq.{paste}
+use Rattle.base.proofs.Words.{paste}
 use Rattle.base.proofs.PasteLaws.{paste-whole}
 use Rattle.words.proofs.PasteLaws.{paste-append}
 use Rattle.terms.specs.declared.Certificate.{Certificate}

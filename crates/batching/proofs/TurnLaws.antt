@@ -1,7 +1,6 @@
 -- Laws of the turns of a batch: that one can be taken after another, whose they are, and what all of them leave.
 use Rattle.std.proofs.Common.{◌≡◌, refl, sym, ap, ◌∙◌, subst, true, List, [], ◌∷◌, ◌++◌, ◌≢◌, ℕ, ◌+◌, ◌<◌, ◌≤◌, arith, length, get_or, set, take, drop, length-set, length-take, get_or-take, get_or-set_same, get_or-set_other, length-append, append_assoc, ext_get_or}
-use native.Mathlib.Decide.{ℕ_discrete, dec_lt}
-use lib.Seq.{paste, length-paste}
+use Rattle.base.proofs.Words.{ℕ_discrete, dec_lt, paste, length-paste}
 use Rattle.std.proofs.lemmas.List.{take_more, take_all, take-append-drop}
 use Rattle.base.specs.Folds.{tab}
 use Rattle.base.proofs.FoldLaws.{length-tab, get_d_tab}

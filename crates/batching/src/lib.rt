@@ -53,7 +53,7 @@ fn offer(state: &State, table: &mut [u32], cache: &mut [u64], entry: Certificate
     let Some(certificate) = words::proposals::certificate(&rows::words_of(entry)) else {
         return Refusal::Malformed.number();
     };
-    admission::cache_committees(true, state, table, certificate, cache);
+    admission::cache_committees(true, state, table, &certificate, cache);
     hosting::plain(accept::accept_cached(true, cache, state, table, certificate))
 }
 

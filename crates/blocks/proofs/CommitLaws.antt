@@ -1,6 +1,6 @@
 -- The number of blocks and the table after a commit.
 use Rattle.std.proofs.Common.{◌≡◌, refl, ◌∙◌, Bool, true, false, cond, ◌&&◌, List, ◌⊎◌, inl, inr, ⊎_elim, ℕ, zero, suc, ◌+◌, ◌-◌, ◌≤◌, ◌<◌, arith, add-one, eqb, ltb, get_or, ltb-true, ltb-false, eqb-true}
-use native.Mathlib.Decide.{ℕ_discrete}
+use Rattle.base.proofs.Words.{ℕ_discrete}
 use Rattle.store.specs.Table.{used_length, Row, mark_at, block_round}
 use Rattle.store.proofs.MarkLaws.{OnlyMarks, only-all, only-both}
 use Rattle.blocks.specs.Anchors.{taken_leaders}

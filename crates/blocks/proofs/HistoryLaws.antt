@@ -1,8 +1,6 @@
 -- Laws of histories.
 use Rattle.std.proofs.Common.{◌≡◌, refl, sym, ap, ap₂, ◌∙◌, Bool, true, false, cond, ◌&&◌, ◌||◌, List, ℕ, zero, suc, ◌-◌, ◌<◌, ◌≤◌, arith, eqb, leb, le-leb, eq-eqb, ne_eqb}
-use mathlib.Core.Bool.{or-false, and_comm}
-use native.Mathlib.Decide.{dec_lt, ℕ_discrete}
-use borrow.Author.Tests.{lt-leb}
+use Rattle.base.proofs.Words.{or-false, and_comm, dec_lt, ℕ_discrete, lt-leb}
 use Rattle.base.specs.Folds.{fold_to, any_to}
 use Rattle.base.proofs.FoldLaws.{fold_same}
 use Rattle.base.proofs.Ranges.{fold_none, fold_next, any_none, any_next}

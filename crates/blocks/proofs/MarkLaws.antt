@@ -1,7 +1,6 @@
 -- The marks and block rounds after a history is marked and a block is made.
 use Rattle.std.proofs.Common.{◌≡◌, refl, sym, ap, ◌∙◌, Bool, true, false, cond, ◌&&◌, ◌||◌, List, ◌≢◌, ℕ, zero, suc, ◌≤◌, ◌<◌, arith, eqb, ltb, eq-eqb, ne_eqb, lt-ltb, le-ltb}
-use mathlib.Core.Bool.{and-true, and-false}
-use native.Mathlib.Decide.{dec_lt, ℕ_discrete}
+use Rattle.base.proofs.Words.{and-true, and-false, dec_lt, ℕ_discrete}
 use Rattle.base.proofs.Bools.{cond_same}
 use Rattle.base.specs.Folds.{fold_to}
 use Rattle.base.proofs.FoldLaws.{fold_kept}

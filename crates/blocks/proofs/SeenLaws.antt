@@ -1,8 +1,6 @@
 -- Laws of what is seen: a history changes nothing from where all that it reaches is seen.
 use Rattle.std.proofs.Common.{◌≡◌, refl, sym, ◌∙◌, Bool, true, false, cond, ◌&&◌, ◌||◌, List, ◌≢◌, ◌⊎◌, inl, inr, ℕ, zero, suc, ◌-◌, ◌<◌, ◌≤◌, arith, eqb, length, get_or, set, replicate, length-set, get_or-set_same, get_or-set_other, eq-eqb, ne_eqb, eqb-true}
-use mathlib.Core.Bool.{or-true, or-false, false≢true}
-use native.Mathlib.Decide.{ℕ_discrete}
-use lib.ListN.{length-replicate}
+use Rattle.base.proofs.Words.{or-true, or-false, false≢true, ℕ_discrete, length-replicate}
 use Rattle.base.proofs.Bools.{both}
 use Rattle.base.specs.Folds.{fold_to, any_to}
 use Rattle.base.proofs.Ranges.{fold_none, fold_next}

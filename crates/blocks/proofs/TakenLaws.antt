@@ -1,6 +1,6 @@
 -- Which leaders a commit takes: those that are in the history of the latest one taken.
 use Rattle.std.proofs.Common.{◌≡◌, refl, sym, ap, ◌∙◌, Bool, true, false, cond, List, ℕ, zero, suc, ◌+◌, ◌-◌, ◌<◌, ◌≤◌, arith, add-one, get_or, set, length, length-set, get_or-set_same, get_or-set_other}
-use native.Mathlib.Decide.{ℕ_discrete, dec_lt}
+use Rattle.base.proofs.Words.{ℕ_discrete, dec_lt}
 use Rattle.base.specs.Sets.{contains, only}
 use Rattle.base.proofs.SetLaws.{in_member}
 use Rattle.store.specs.Table.{held_at}

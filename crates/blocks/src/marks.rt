@@ -13,8 +13,8 @@ use terms::{Member, Round};
 // Puts the certificate of `author` and `round` into `block`, if `author` is in `authors` and it is in no block yet.
 #[tactic(auto, unfolding(crate::specs::Blocks::mark_place))]
 fn mark_place(table: &mut [u32], block: u32, authors: u32, author: Member, round: Round)
-    requires { Within table.old author.0 round.0 }
-    ensures { table.new ≡ mark_place block authors round.0 author.0 table.old }
+    requires { Within table.old author.0 round }
+    ensures { table.new ≡ mark_place block authors round author.0 table.old }
 {
     if base::contains(authors, author.0) && store::record::mark(table, author, round) == 0 {
         writes::set_mark(table, author, round, block);
@@ -24,8 +24,8 @@ fn mark_place(table: &mut [u32], block: u32, authors: u32, author: Member, round
 // So for all sixteen.
 #[tactic(auto, using(base::proofs::FoldLaws::fold_more, base::proofs::Ranges::fold_none), unfolding(crate::specs::Blocks::mark_row))]
 fn mark_row(table: &mut [u32], block: u32, authors: u32, round: Round)
-    requires { Row table.old round.0 }
-    ensures { table.new ≡ mark_row block authors round.0 table.old }
+    requires { Row table.old round }
+    ensures { table.new ≡ mark_row block authors round table.old }
 {
     for a in 0..16u32 {
         mark_place(table, block, authors, Member(a), round);
@@ -36,8 +36,8 @@ fn mark_row(table: &mut [u32], block: u32, authors: u32, round: Round)
 // seen has what earlier walks reached, by round: where a walk reaches nothing else it ends.
 #[tactic(auto, using(crate::proofs::SeenLaws::seen_end), unfolding(base::specs::Sets::is_subset))]
 fn mark_history(table: &mut [u32], seen: &mut [u32; 1025], block: u32, authors: u32, top: Round)
-    requires { HistoryReady table.old seen.old top.0 × (0 < block) }
-    ensures { (table.new ≡ mark_history block top.0 authors table.old)
+    requires { HistoryReady table.old seen.old top × (0 < block) }
+    ensures { (table.new ≡ mark_history block top authors table.old)
         × Seen table.new seen.new seen.new }
 {
     let mut r = top.0;
@@ -64,8 +64,8 @@ pub fn add_block(
     author: Member,
     round: Round,
 )
-    requires { NewBlockReady table.old seen.old block author.0 round.0 }
-    ensures { (table.new ≡ add_block block author.0 round.0 table.old)
+    requires { NewBlockReady table.old seen.old block author.0 round }
+    ensures { (table.new ≡ add_block block author.0 round table.old)
         × Seen table.new seen.new seen.new }
 {
     let anchor = base::only(author.0);

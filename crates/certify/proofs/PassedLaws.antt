@@ -21,7 +21,7 @@ module _ (s : State) (t : List ℕ) where
   pub record CertifyPassed (i : ℕ) : Type 0 where
     pub formed : Formed s t
     pub proposing : is_proposing s ≡ true
-    pub free : held_at t s.own.0 s.round.0 ≡ false
+    pub free : held_at t s.own.0 s.round ≡ false
     pub not_among : contains i s.own.0 ≡ false
 
   pub certify-passed : (i : ℕ) → certify_refusal s t i ≡ 0 → CertifyPassed i
@@ -35,6 +35,6 @@ module _ (s : State) (t : List ℕ) where
           record {
             formed = f;
             proposing = sym q;
-            free = sym (held-dag s.settings.ceiling.0 t s.own.0 s.round.0 f.numbers.round_from f.numbers.round_to) ∙ h10;
+            free = sym (held-dag s.settings.ceiling t s.own.0 s.round f.numbers.round_from f.numbers.round_to) ∙ h10;
             not_among = h14;
           }

@@ -15,4 +15,4 @@ module _ (s : State) (t : List ℕ) where
   unfoldable pub certify_table : ℕ → List ℕ
   certify_table e =
       if_accepted (certify_refusal e)
-      (put_certificate t (content_with s.own.0 s.round.0 (own_body s)) e) t
+      (put_certificate t (content_with s.own.0 s.round (own_body s)) e) t

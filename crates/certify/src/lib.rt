@@ -27,7 +27,7 @@ fn check(view: &View, endorsers: u32) -> Result<Proposal, Refusal>
         ≡ refusal (certifying (settings_of view.now) view.now.state.now.own.0 (shown view.now)
         endorsers (shown view.now).proposal) }
     ensures value { IfOk result (λ p. content_of p ≡ (let s = view.now.state.now in
-        content_with s.own.0 s.round.0 (own_body s))) }
+        content_with s.own.0 s.round (own_body s))) }
     ensures fits { IfOk result (FormFits view.now.state.now) }
 {
     let author = view.state.own;

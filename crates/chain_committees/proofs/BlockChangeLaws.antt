@@ -74,10 +74,10 @@ same_at t k =
 -- ---- a block
 
 -- by round, then numbers from that of its start on
-pub block-rows : (S : Settings) (t : List ℕ) (k : ℕ) (w : List Weight) → block_change S t k w ≡ rows_over (place_change t (k + 1)) (start_at S t k) S.ceiling.0 w
+pub block-rows : (S : Settings) (t : List ℕ) (k : ℕ) (w : List Weight) → block_change S t k w ≡ rows_over (place_change t (k + 1)) (start_at S t k) S.ceiling w
 unfolding block_change start_at rows_over places_over place_change
 block-rows S t k w =
-    let n = S.ceiling.0 in
+    let n = S.ceiling in
     let a = start_at S t k in
     rw (ordered-rows S (block_at n t (k + 1)) (chain_of n t k)) (rows-changes (block_at n t (k + 1)) a n w)
     ∙ fold_same (λ r. fold_to (λ m. changes_of (at_most_one ((block_at n t (k + 1)).holds ((a + m) % 16) (suc r)))) 16)

@@ -1,7 +1,6 @@
 -- How far the walk raises the total weight.
 use Rattle.std.proofs.Common.{◌≡◌, refl, ◌∙◌, Bool, true, false, cond, List, ℕ, zero, suc, ◌+◌, ◌*◌, ◌/◌, ◌%◌, ◌<◌, ◌≤◌, arith, mul-le-mul_right, get_or, eqb, leb, ltb, eqb-true}
-use native.Mathlib.Decide.{dec_lt}
-use borrow.Author.Tests.{eqb-false}
+use Rattle.base.proofs.Words.{dec_lt, eqb-false}
 use Rattle.base.specs.Folds.{fold_to, sum_to}
 use Rattle.base.proofs.SumLaws.{sum_turned, sum_same, sum_le}
 use Rattle.terms.specs.declared.sheet.Settings.{Settings}
@@ -74,9 +73,9 @@ module _ (t : List ℕ) (n a : ℕ) (bounded : WeightsBounded t n a) where
       most true = omega arith
       most false = omega arith
 
-module _ (t : List ℕ) (S : Settings) (a : ℕ) (bounded : WeightsBounded t S.ceiling.0 a) where
+module _ (t : List ℕ) (S : Settings) (a : ℕ) (bounded : WeightsBounded t S.ceiling a) where
   abbrev n : ℕ
-  n = S.ceiling.0
+  n = S.ceiling
 
   -- what block k + 1 may raise it by
   block_raises : (k : ℕ) → Raises (block_change S t k) (sum_to (λ r. sum_to (λ m. cond (eqb (mark_at t m (r + 1)) (k + 1)) (4 * a) 0) 16) n)
@@ -155,8 +154,8 @@ module _ (t : List ℕ) (words : (i : ℕ) → get_or t i 0 < 4294967296) where
       let r = raised (rows_over (place_change t k) s m) (m * (16 * (4 * 4294967295))) (rows-most t 1024 4294967295 (weights-bounded 1024) k s m h) w in
       omega arith
 
-  pub after_total : (S : Settings) (k : ℕ) (w : List Weight) → S.ceiling.0 ≤ 1024 → total_in (after_blocks S t k w) ≤ total_in w + 281474976645120
-  after_total S k w h = let p = after_raises t S 4294967295 (weights-bounded S.ceiling.0) k w in omega arith
+  pub after_total : (S : Settings) (k : ℕ) (w : List Weight) → S.ceiling ≤ 1024 → total_in (after_blocks S t k w) ≤ total_in w + 281474976645120
+  after_total S k w h = let p = after_raises t S 4294967295 (weights-bounded S.ceiling) k w in omega arith
 
-  pub bonded-total : (S : Settings) (k s : ℕ) → S.ceiling.0 ≤ 1024 → total_in (bonded_from S (chain_of S.ceiling.0 t k) s) ≤ total_in S.weights + 281474976645120
-  bonded-total S k s h = let p = bonded_raises t S 4294967295 (weights-bounded S.ceiling.0) s k in omega arith
+  pub bonded-total : (S : Settings) (k s : ℕ) → S.ceiling ≤ 1024 → total_in (bonded_from S (chain_of S.ceiling t k) s) ≤ total_in S.weights + 281474976645120
+  bonded-total S k s h = let p = bonded_raises t S 4294967295 (weights-bounded S.ceiling) s k in omega arith

@@ -1,8 +1,6 @@
 -- Laws of cached committees: one round more, and all of them.
-use Rattle.std.proofs.Common.{◌≡◌, sym, ap, ◌∙◌, List, ℕ, ◌+◌, ◌<◌, ◌≤◌, arith, length, get_or}
-use native.Mathlib.Decide.{ℕ_discrete}
-use lib.ListN.{get_or-map, length-map}
-use lib.Seq.{paste, length-paste}
+use Rattle.std.proofs.Common.{◌≡◌, add-one, set, sym, ap, ◌∙◌, List, ℕ, ◌+◌, ◌<◌, ◌≤◌, arith, length, get_or}
+use Rattle.base.proofs.Words.{ℕ_discrete, get_or-map, length-map, paste, paste-suc, length-paste}
 use Rattle.base.proofs.FoldLaws.{tab-same, tab_get}
 use Rattle.base.proofs.PasteLaws.{paste-below, paste-inside}
 use Rattle.terms.specs.declared.sheet.Weight.{Weight}
@@ -17,8 +15,12 @@ use Rattle.chain_committees.specs.Caches.{first_round, words_at, weights_at, num
 pub numbers_at : (w : List Weight) (i : ℕ) → get_or (numbers w) i 0 ≡ (get_or w i (weight 0)).0
 numbers_at w i = get_or-map (λ (x : Weight). x.0) w i (weight 0)
 
+-- one weight more is put
+pub put_more : (t : List ℕ) (b : ℕ) (w : List Weight) (i : ℕ) → i < length w → b + i < length t → set (paste t b (numbers w) i) (b + i) (get_or w i (weight 0)).0 ≡ paste t b (numbers w) (i + 1)
+put_more t b w i h l = rw (add-one i, ← numbers_at w i) (paste-suc t b (numbers w) i 0 (omega arith) (omega (arith, length-map w (λ (x : Weight). x.0))))
+
 -- a window that begins above the ceiling
-pub caches-far : (S : Settings) (c : Chain Content) (cache : List ℕ) → S.ceiling.0 < first_round cache → Caches S c cache
+pub caches-far : (S : Settings) (c : Chain Content) (cache : List ℕ) → S.ceiling < first_round cache → Caches S c cache
 caches-far S c cache h = record { committee = λ r u l. absurd (omega (arith, l.from)) }
 
 module _ (S : Settings) (c : Chain Content) (first : ℕ) where

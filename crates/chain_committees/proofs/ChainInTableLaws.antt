@@ -1,6 +1,6 @@
 -- Laws of what the walk relies on, and of running committees.
 use Rattle.std.proofs.Common.{◌≡◌, refl, sym, ◌∙◌, true, List, ℕ, ◌+◌, ◌-◌, ◌*◌, ◌<◌, ◌≤◌, arith, get_or}
-use native.Mathlib.Decide.{ℕ_discrete, dec_lt}
+use Rattle.base.proofs.Words.{ℕ_discrete, dec_lt}
 use Rattle.base.proofs.SumLaws.{sum_le}
 use Rattle.store.specs.Table.{Row, block_round}
 use Rattle.terms.specs.declared.sheet.Settings.{Settings}
@@ -10,13 +10,13 @@ use Rattle.committee.specs.Committees.{bonded_from, committee_of}
 use Rattle.committee.proofs.CommitteeLaws.{committee-start, committee-bonded, margin_fits}
 use Rattle.committee.specs.Totals.{TotalBounded}
 use Rattle.chain_committees.specs.BlockChanges.{block_change, last_round, blocks_fit}
-use Rattle.chain_committees.proofs.ChainLaws.{last_none, last_some, fits-at, last-from, bonded-split, after_none, after_more}
+use Rattle.chain_committees.proofs.ChainLaws.{last_none, last_some, last_more, fits-at, last-from, bonded-split, after_none, after_more}
 use Rattle.chain_committees.proofs.BoundLaws.{after_total, bonded-total}
 use Rattle.chain_committees.specs.ChainInTable.{ChainInTable, AfterBlocks}
 use Rattle.terms.specs.declared.sheet.Weight.{Weight}
 
 -- settings in range, a table long enough and fitting blocks are enough
-pub chain_in_table : (S : Settings) (t : List ℕ) (blocks : ℕ) → SettingsFit S → Row t S.ceiling.0 → blocks_fit S.ceiling.0 t blocks ≡ true → ChainInTable S t blocks
+pub chain_in_table : (S : Settings) (t : List ℕ) (blocks : ℕ) → SettingsFit S → Row t S.ceiling → blocks_fit S.ceiling t blocks ≡ true → ChainInTable S t blocks
 chain_in_table S t blocks f l e =
     record {
       ceiling = f.ceiling_to;
@@ -27,11 +27,11 @@ chain_in_table S t blocks f l e =
       margin = margin_fits f;
     }
   where
-    few : Dec (blocks ≡ 0) → 2 * blocks < S.ceiling.0
+    few : Dec (blocks ≡ 0) → 2 * blocks < S.ceiling
     few (yes z) = let c = f.ceiling_from in omega arith
     few (no z) =
-        let p = last-from S.ceiling.0 t blocks e blocks (omega arith) in
-        let q = fits-at S.ceiling.0 t blocks e (blocks - 1) (omega arith) in
+        let p = last-from S.ceiling t blocks e blocks (omega arith) in
+        let q = fits-at S.ceiling t blocks e (blocks - 1) (omega arith) in
         let i : blocks - 1 + 1 ≡ blocks = omega arith in
         let b = rw i at q.below in
         let s = last_some t blocks z in
@@ -54,7 +54,7 @@ module _ {S : Settings} {t : List ℕ} {blocks : ℕ} where
       go (no z) =
           let i : k - 1 + 1 ≡ k = omega arith in
           let l = s.within in
-          let b = rw i at (fits-at S.ceiling.0 t blocks a.rounds (k - 1) (omega arith)).below in
+          let b = rw i at (fits-at S.ceiling t blocks a.rounds (k - 1) (omega arith)).below in
           let c = a.ceiling in
           rw (last_some t k z) (omega arith)
 
@@ -63,31 +63,36 @@ module _ {S : Settings} {t : List ℕ} {blocks : ℕ} where
   after_next {q} {k} {w} v h l e s =
       record {
         within = omega arith;
-        passed = rw (last_some t (k + 1) (λ z. omega arith)) l;
+        passed = rw (last_more t k) l;
         weights = rw (e, after_more S t k S.weights, s.weights) refl;
       }
 
   -- where no block of a round below s is left, it is the bonded committee of that round
   pub after_bonded : {k : ℕ} {w : List Weight} (s : ℕ) → 1 ≤ s → ChainInTable S t blocks → (k < blocks → s ≤ block_round t (k + 1)) → AfterBlocks S t blocks (s - 1) k w
-      → w ≡ bonded_from S (chain_of S.ceiling.0 t blocks) s
+      → w ≡ bonded_from S (chain_of S.ceiling t blocks) s
   after_bonded {k} {w} s h a f x =
       let p = x.passed in
       x.weights ∙ sym (bonded-split S t blocks a.rounds s k blocks x.within (omega arith) (omega arith) f)
 
+  -- so it is where a walk goes that far
+  pub bonded_reached : {k : ℕ} {w : List Weight} (s : ℕ) → 1 ≤ s → ChainInTable S t blocks → AfterBlocks S t blocks 1024 k w → last_round t k ≤ s - 1 → (k < blocks → s ≤ block_round t (k + 1))
+      → w ≡ bonded_from S (chain_of S.ceiling t blocks) s
+  bonded_reached s h a x p f = after_bonded s h a f (after-at (s - 1) p x)
+
   -- where the first block's round is not below that of round r, no block changes the committees up to r
-  pub committee_starts : ChainInTable S t blocks → (r q : ℕ) → q ≤ r → (0 < blocks → r - S.lookback ≤ block_round t 1) → committee_of S (chain_of S.ceiling.0 t blocks) q ≡ S.weights
+  pub committee_starts : ChainInTable S t blocks → (r q : ℕ) → q ≤ r → (0 < blocks → r - S.lookback ≤ block_round t 1) → committee_of S (chain_of S.ceiling t blocks) q ≡ S.weights
   committee_starts a r q h f = go (dec_lt S.lookback q)
     where
-      go : Dec (S.lookback < q) → committee_of S (chain_of S.ceiling.0 t blocks) q ≡ S.weights
+      go : Dec (S.lookback < q) → committee_of S (chain_of S.ceiling t blocks) q ≡ S.weights
       go (yes l) =
-          committee-bonded S (chain_of S.ceiling.0 t blocks) q l
+          committee-bonded S (chain_of S.ceiling t blocks) q l
           ∙ sym (after_bonded (q - S.lookback) (omega arith) a (λ k. omega (arith, f k)) (after-start (q - S.lookback - 1)))
-      go (no l) = committee-start S (chain_of S.ceiling.0 t blocks) q (omega arith)
+      go (no l) = committee-start S (chain_of S.ceiling t blocks) q (omega arith)
 
   -- before the first block's round it is the starting one
   pub after_first : {k : ℕ} {w : List Weight} → ChainInTable S t blocks → AfterBlocks S t blocks 0 k w → w ≡ S.weights
   after_first {k} {w} a s =
-      let p = last-from S.ceiling.0 t blocks a.rounds k s.within in
+      let p = last-from S.ceiling t blocks a.rounds k s.within in
       let q = s.passed in
       let e : k ≡ 0 = omega arith in
       s.weights ∙ rw e (after_none S t S.weights)
@@ -100,15 +105,15 @@ module _ {S : Settings} {t : List ℕ} {blocks : ℕ} where
       record { total = rw s.weights (omega arith) }
 
 -- and so is every committee
-pub committee_bounded : (S : Settings) (t : List ℕ) (blocks r : ℕ) → ((i : ℕ) → get_or t i 0 < 4294967296) → ChainInTable S t blocks → TotalBounded (committee_of S (chain_of S.ceiling.0 t blocks) r)
+pub committee_bounded : (S : Settings) (t : List ℕ) (blocks r : ℕ) → ((i : ℕ) → get_or t i 0 < 4294967296) → ChainInTable S t blocks → TotalBounded (committee_of S (chain_of S.ceiling t blocks) r)
 committee_bounded S t blocks r words a = go (dec_lt S.lookback r)
   where
-    go : Dec (S.lookback < r) → TotalBounded (committee_of S (chain_of S.ceiling.0 t blocks) r)
+    go : Dec (S.lookback < r) → TotalBounded (committee_of S (chain_of S.ceiling t blocks) r)
     go (yes h) =
         let l = bonded-total t words S blocks (r - S.lookback) a.ceiling in
         let s = a.total in
-        record { total = rw (committee-bonded S (chain_of S.ceiling.0 t blocks) r h) (omega arith) }
-    go (no h) = let s = a.total in record { total = rw (committee-start S (chain_of S.ceiling.0 t blocks) r (omega arith)) (omega arith) }
+        record { total = rw (committee-bonded S (chain_of S.ceiling t blocks) r h) (omega arith) }
+    go (no h) = let s = a.total in record { total = rw (committee-start S (chain_of S.ceiling t blocks) r (omega arith)) (omega arith) }
 
 -- what a committee is that a walk has reached
 pub ruleset committee_reached = (committee-start, committee-bonded, after_first)

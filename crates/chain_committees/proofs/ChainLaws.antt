@@ -1,7 +1,6 @@
 -- Laws of the chain in the table: the bonded committee block by block, and block rounds that rise.
 use Rattle.std.proofs.Common.{◌≡◌, refl, sym, ◌∙◌, ◌&&◌, true, List, ℕ, zero, suc, ◌+◌, ◌-◌, ◌*◌, ◌%◌, ◌<◌, ◌≤◌, arith, add-one, eqb, ltb, ne_eqb, ltb-true, eqb-true}
-use native.Mathlib.Decide.{ℕ_discrete, dec_lt}
-use lib.Dec.{eqb-suc-zero}
+use Rattle.base.proofs.Words.{ℕ_discrete, dec_lt, eqb-suc-zero}
 use Rattle.base.proofs.Bools.{both}
 use Rattle.base.specs.Folds.{fold_to}
 use Rattle.base.proofs.FoldLaws.{fold_more}
@@ -27,16 +26,21 @@ pub last_some : (t : List ℕ) (k : ℕ) → (k ≡ 0 → ⊥) → last_round t 
 unfolding last_round
 last_some t k h = rw (ne_eqb k 0 h) refl
 
+pub last_more : (t : List ℕ) (k : ℕ) → last_round t (k + 1) ≡ block_round t (k + 1)
+last_more t k = last_some t (k + 1) (λ z. omega arith)
+
 pub last-chain : (n : ℕ) (t : List ℕ) (k : ℕ) → last (chain_of n t k) ≡ last_round t k
 unfolding last_round
 last-chain n t k = chain-last n t k
 
+pub ruleset last_of_chain = last-chain
+
 -- ---- a block
 
 -- of a round below s it counts
-pub block_counts : (S : Settings) (s k : ℕ) (t : List ℕ) (w : List Weight) → block_round t (k + 1) < s → step S s (block_at S.ceiling.0 t (k + 1)) (chain_of S.ceiling.0 t k) w ≡ block_change S t k w
+pub block_counts : (S : Settings) (s k : ℕ) (t : List ℕ) (w : List Weight) → block_round t (k + 1) < s → step S s (block_at S.ceiling t (k + 1)) (chain_of S.ceiling t k) w ≡ block_change S t k w
 unfolding block_change
-block_counts S s k t w h = let n = S.ceiling.0 in step_counts S s (block_at n t (k + 1)) (chain_of n t k) w (rw (block-round n t (k + 1)) h)
+block_counts S s k t w h = let n = S.ceiling in step_counts S s (block_at n t (k + 1)) (chain_of n t k) w (rw (block-round n t (k + 1)) h)
 
 -- ---- rounds that rise
 
@@ -95,9 +99,9 @@ after_more S t k w = fold_more (block_change S t) k w
 
 -- ---- the bonded committee
 
-module _ (S : Settings) (t : List ℕ) (blocks : ℕ) (fit : blocks_fit S.ceiling.0 t blocks ≡ true) where
+module _ (S : Settings) (t : List ℕ) (blocks : ℕ) (fit : blocks_fit S.ceiling t blocks ≡ true) where
   abbrev n : ℕ
-  n = S.ceiling.0
+  n = S.ceiling
 
   -- where the newest block's round is below s, all count
   bonded-all : (s k : ℕ) → k ≤ blocks → last_round t k < s → bonded_from S (chain_of n t k) s ≡ after_blocks S t k S.weights

@@ -1,8 +1,6 @@
 -- Laws of linked places: how one more place is linked, going down.
 use Rattle.std.proofs.Common.{◌≡◌, sym, ◌∙◌, List, ℕ, ◌+◌, ◌*◌, ◌/◌, ◌%◌, ◌<◌, ◌≤◌, arith, get_or, length, replicate}
-use mathlib.Core.Bool.{false≢true}
-use native.Mathlib.Decide.{dec_lt}
-use lib.ListN.{length-replicate, get_or-replicate}
+use Rattle.base.proofs.Words.{false≢true, dec_lt, length-replicate, get_or-replicate}
 use Rattle.base.proofs.UnionLaws.{in_none}
 use Rattle.store.specs.Table.{held_set}
 use Rattle.store.proofs.TableLaws.{held_in}
@@ -44,7 +42,7 @@ module _ {t head next : List ℕ} {e : ℕ} where
       after k p l x y z (no d) = s.nexts k p l (omega arith) y z
 
   -- a row without a held certificate
-  pub links_empty : (r : ℕ) → held_set t r ≡ 0 → Links t (r * 16 + 16) e head next → Links t (r * 16) e head next
-  links_empty r h =
-      links-more (r * 16) (omega arith)
+  pub links_empty : (r a : ℕ) → held_set t r ≡ 0 → a ≡ r * 16 → Links t (a + 16) e head next → Links t a e head next
+  links_empty r a h i =
+      links-more a (omega arith)
       (λ k p l x y z. let q : p / 16 ≡ r = omega arith in false≢true (sym (rw (held_in t (p % 16) r, h) (in_none (p % 16))) ∙ rw q at z.held))

@@ -1,7 +1,6 @@
 -- Laws of places one after the other: going by the links is going place by place.
 use Rattle.std.proofs.Common.{◌≡◌, refl, sym, ap, ◌∙◌, cond, List, ℕ, zero, suc, ◌+◌, ◌-◌, ◌*◌, ◌/◌, ◌%◌, ◌<◌, ◌≤◌, arith, get_or, length, leb, lt-ltb, le-ltb, le-leb}
-use native.Mathlib.Decide.{dec_lt}
-use borrow.Author.Tests.{lt-leb}
+use Rattle.base.proofs.Words.{dec_lt, lt-leb}
 use Rattle.base.specs.Folds.{fold_to}
 use Rattle.base.proofs.FoldLaws.{fold_more, fold_to_none, fold_same, fold_high, fold_join}
 use Rattle.chain_committees.specs.Links.{Marked, First, Links}
@@ -23,6 +22,13 @@ module _ {A : Type 0} (f : ℕ → A → A) (next : List ℕ) (y z : ℕ) where
   unfolding run_over
   run_none q x = refl
 
+  -- of sixteen steps, after i of them
+  pub run_left : (i q : ℕ) (x : A) → i < 16 → q < z → run_over f next y z (16 - (i + 1)) (get_or next q 0) (cond (leb y q) (f q x) x) ≡ run_over f next y z (16 - i) q x
+  run_left i q x h l = let e : 16 - i ≡ suc (16 - (i + 1)) = omega arith in rw e (sym (run_step (16 - (i + 1)) q x l))
+
+  pub run_all : (i q : ℕ) (x : A) → 16 ≤ i → run_over f next y z (16 - i) q x ≡ x
+  run_all i q x h = let e : 16 - i ≡ 0 = omega arith in rw e (run_none q x)
+
 module _ (next : List ℕ) (z : ℕ) where
   pub end_step : (n q : ℕ) → q < z → run_end next z (suc n) q ≡ run_end next z n (get_or next q 0)
   unfolding run_end
@@ -36,6 +42,12 @@ module _ (next : List ℕ) (z : ℕ) where
   pub end_none : (q : ℕ) → run_end next z 0 q ≡ q
   unfolding run_end
   end_none q = refl
+
+  pub end_left : (i q : ℕ) → i < 16 → q < z → run_end next z (16 - (i + 1)) (get_or next q 0) ≡ run_end next z (16 - i) q
+  end_left i q h l = let e : 16 - i ≡ suc (16 - (i + 1)) = omega arith in rw e (sym (end_step (16 - (i + 1)) q l))
+
+  pub end_all : (i q : ℕ) → 16 ≤ i → run_end next z (16 - i) q ≡ q
+  end_all i q h = let e : 16 - i ≡ 0 = omega arith in rw e (end_none q)
 
 -- ---- linked places
 
@@ -153,25 +165,6 @@ module _ {A : Type 0} {t : List ℕ} {k : ℕ} {f g : ℕ → A → A} (s : Same
         ∙ sym (fold_join (λ v. f (r + (a + v) % 16)) (16 - a) a x)
         ∙ rw m refl)
 
-    -- up to the row of the first place nothing is done
-    pub rows-first : (a p : ℕ) (x : A) → LinkedFrom t next k 16 e p → rows_over f a (p / 16 - 1) x ≡ x
-    rows-first a p x c =
-        let h = c.first.from in
-        rows-skip a 0 (p / 16 - 1) x (omega arith) (λ i u v. c.first.skipped i (omega arith) (omega arith)) ∙ rows_none a x
-
-    -- from the row of one place to that of the next one after it: that row is done
-    pub rows_step : (a p q : ℕ) (x : A) → 16 ≤ p → LinkedFrom t next k (p / 16 * 16 + 16) e q → rows_over f a (q / 16 - 1) x ≡ places_over f a (p / 16) (rows_over f a (p / 16 - 1) x)
-    rows_step a p q x low d =
-        let i = d.first.from in
-        let j : p / 16 - 1 + 1 ≡ p / 16 = omega arith in
-        let m : rows_over f a (p / 16) x ≡ places_over f a (p / 16) (rows_over f a (p / 16 - 1) x) = rw j at (rows_more a (p / 16 - 1) x) in
-        rows-skip a (p / 16) (q / 16 - 1) x (omega arith) (λ v b u. d.first.skipped v (omega arith) (omega arith)) ∙ m
-
-    -- going by the links
-    pub rows_next : (a p q : ℕ) (x : A) → a ≤ 16 → 16 ≤ p → p / 16 * 16 + 16 ≤ e → LinkedFrom t next k (p / 16 * 16) e p → LinkedFrom t next k (p / 16 * 16 + 16) e q
-        → rows_over f a (q / 16 - 1) x ≡ row_over g next a p (rows_over f a (p / 16 - 1) x)
-    rows_next a p q x h low l c d = rows_step a p q x low d ∙ sym (row-places a p (rows_over f a (p / 16 - 1) x) h l c)
-
 -- the first place after a run is linked too
 module _ {t next : List ℕ} {k e : ℕ} (z : ℕ) where
   pub end_linked : (n a p : ℕ) → a ≤ z → z ≤ e → z ≤ a + n → LinkedFrom t next k a e p → LinkedFrom t next k z e (run_end next z n p)
@@ -181,3 +174,48 @@ module _ {t next : List ℕ} {k e : ℕ} (z : ℕ) where
       go : Dec (p < z) → (p + 1 ≤ z → z ≤ p + 1 + n → LinkedFrom t next k (p + 1) e (get_or next p 0) → LinkedFrom t next k z e (run_end next z n (get_or next p 0))) → LinkedFrom t next k z e (run_end next z (suc n) p)
       go (yes d) more = let i = c.first.from in rw (end_step next z n p d) (more (omega arith) (omega arith) (linked-next (omega arith) c))
       go (no d) more = rw (end_stop next z (suc n) p (omega arith)) (linked_up z h (omega arith) c)
+
+-- ---- row by row
+
+-- a walk over the rows of block k is at place p: the block's first one from that row on
+pub record AtRow (t next : List ℕ) (k e p : ℕ) : Type 0 where
+  pub low : 16 ≤ p
+  pub whole : e % 16 ≡ 0
+  pub linked : LinkedFrom t next k (p / 16 * 16) e p
+
+module _ {t next : List ℕ} {k e : ℕ} where
+  -- it begins at the first place of the block
+  pub row_first : {head : List ℕ} → k < 512 → e % 16 ≡ 0 → Links t 16 e head next → AtRow t next k e (get_or head k 0)
+  row_first h w l = let d = linked-head h l in let i = d.first.from in record { low = i; whole = w; linked = linked_up _ (omega arith) (omega arith) d }
+
+  -- and goes on to the first one behind the row
+  behind : {p q : ℕ} → p < e → AtRow t next k e p → q ≡ run_end next (p / 16 * 16 + 16) 16 p → LinkedFrom t next k (p / 16 * 16 + 16) e q
+  behind {p} h a i = rw i (end_linked (p / 16 * 16 + 16) 16 (p / 16 * 16) p (omega arith) (omega (arith, a.whole)) (omega arith) a.linked)
+
+  pub row_above : {p q : ℕ} → p < e → AtRow t next k e p → q ≡ run_end next (p / 16 * 16 + 16) 16 p → p / 16 * 16 + 16 ≤ q
+  row_above h a i = (behind h a i).first.from
+
+  pub row_on : {p q : ℕ} → p < e → AtRow t next k e p → q ≡ run_end next (p / 16 * 16 + 16) 16 p → AtRow t next k e q
+  row_on h a i = let d = behind h a i in let j = d.first.from in record { low = omega (arith, a.low); whole = a.whole; linked = linked_up _ (omega arith) (omega arith) d }
+
+  module _ {A : Type 0} {f g : ℕ → A → A} (s : SameAt t k f g) (a : ℕ) where
+    -- up to the row of the first place nothing is done
+    pub rows-first : {head : List ℕ} (x : A) → k < 512 → Links t 16 e head next → rows_over f a (get_or head k 0 / 16 - 1) x ≡ x
+    rows-first {head} x h l =
+        let c = linked-head h l in
+        let i = c.first.from in
+        rows-skip s a 0 (get_or head k 0 / 16 - 1) x (omega arith) (λ j u v. c.first.skipped j (omega arith) (omega arith)) ∙ rows_none s a x
+
+    -- from one row to the next one: the first of them is done
+    pub rows_step : (p q : ℕ) (x : A) → p < e → AtRow t next k e p → q ≡ run_end next (p / 16 * 16 + 16) 16 p → rows_over f a (q / 16 - 1) x ≡ places_over f a (p / 16) (rows_over f a (p / 16 - 1) x)
+    rows_step p q x h c e =
+        let d = behind h c e in
+        let i = d.first.from in
+        let low = c.low in
+        let j : p / 16 - 1 + 1 ≡ p / 16 = omega arith in
+        let m : rows_over f a (p / 16) x ≡ places_over f a (p / 16) (rows_over f a (p / 16 - 1) x) = rw j at (rows_more s a (p / 16 - 1) x) in
+        rows-skip s a (p / 16) (q / 16 - 1) x (omega arith) (λ v b u. d.first.skipped v (omega arith) (omega arith)) ∙ m
+
+    -- going by the links
+    pub rows_next : (p q : ℕ) (x : A) → a ≤ 16 → p < e → AtRow t next k e p → q ≡ run_end next (p / 16 * 16 + 16) 16 p → rows_over f a (q / 16 - 1) x ≡ row_over g next a p (rows_over f a (p / 16 - 1) x)
+    rows_next p q x l h c e = rows_step p q x h c e ∙ sym (row-places s a p (rows_over f a (p / 16 - 1) x) l (omega (arith, c.whole)) c.linked)

@@ -1,16 +1,17 @@
 -- Laws of the starts that are written beside a running committee.
-use Rattle.std.proofs.Common.{◌≡◌, sym, ◌∙◌, List, ℕ, zero, suc, ◌+◌, ◌<◌, ◌≤◌, arith, get_or, set, replicate, length-set, get_or-set_same, get_or-set_other}
-use native.Mathlib.Decide.{ℕ_discrete}
-use lib.ListN.{length-replicate}
+use Rattle.std.proofs.Common.{◌≡◌, sym, ◌∙◌, List, ℕ, ◌+◌, ◌<◌, ◌≤◌, arith, get_or, set, replicate, length-set, get_or-set_same, get_or-set_other, unwrap_or}
+use Rattle.base.proofs.Words.{ℕ_discrete, length-replicate}
 use Rattle.store.specs.Table.{block_round}
 use Rattle.terms.specs.declared.sheet.Settings.{Settings}
 use Rattle.committee.specs.Committees.{leader_by, start_of}
+use Rattle.committee.specs.Leaders.{leader_of}
 use Rattle.committee.proofs.LeaderLaws.{leader_le}
+use Rattle.terms.specs.Ranges.{weight_in}
 use Rattle.chain_committees.specs.BlockChanges.{place_change, start_at}
 use Rattle.chain_committees.proofs.BlockChangeLaws.{block-rows}
 use Rattle.chain_committees.proofs.BoundLaws.{after_total}
 use Rattle.chain_committees.specs.LinkRuns.{rows_over}
-use Rattle.chain_committees.proofs.ChainLaws.{last_some, fits-at, start-now}
+use Rattle.chain_committees.proofs.ChainLaws.{last_more, fits-at, start-now}
 use Rattle.chain_committees.specs.ChainInTable.{ChainInTable, AfterBlocks}
 use Rattle.chain_committees.proofs.ChainInTableLaws.{after_next}
 use Rattle.chain_committees.specs.Starts.{Started, StartsAhead}
@@ -24,29 +25,17 @@ start_le S t k = leader_le _ _
 module _ {S : Settings} {t : List ℕ} {blocks : ℕ} where
   -- the rounds of blocks rise
   round-next : ChainInTable S t blocks → (i : ℕ) → i + 1 < blocks → block_round t (i + 1) < block_round t (i + 1 + 1)
-  round-next a i h = let p = (fits-at S.ceiling.0 t blocks a.rounds (i + 1) h).rises in let q = last_some t (i + 1) (λ z. omega arith) in omega arith
-
-  pub round_after : ChainInTable S t blocks → (k i : ℕ) → i < blocks → k ≤ i → block_round t (k + 1) ≤ block_round t (i + 1)
-  round_after a k zero h l = let e : k ≡ 0 = omega arith in rw e (omega arith)
-  round_after a k (suc i) h l = go (ℕ_discrete k (suc i)) (λ q. round_after a k i (omega arith) q)
-    where
-      go : Dec (k ≡ suc i) → (k ≤ i → block_round t (k + 1) ≤ block_round t (i + 1)) → block_round t (k + 1) ≤ block_round t (suc i + 1)
-      go (yes e) f = rw e (omega arith)
-      go (no e) f =
-          let p = f (omega arith) in
-          let q = round-next a i (omega arith) in
-          let j : i + 1 + 1 ≡ suc i + 1 = omega arith in
-          let r : block_round t (i + 1) < block_round t (suc i + 1) = rw j at q in
-          omega arith
+  round-next a i h = let p = (fits-at S.ceiling t blocks a.rounds (i + 1) h).rises in let q = last_more t i in omega arith
 
   -- none is written yet
   pub started_none : (n : ℕ) → Started S t blocks 0 0 (replicate 512 n)
   started_none n = record { size = length-replicate 512 n; from = omega arith; to = omega arith; written = λ i h. absurd (omega arith); ahead = λ h. absurd (omega arith) }
 
   -- one start more: that of a block within lookback rounds of the one to be applied next
-  pub started_next : {k i : ℕ} {q : ℕ} {w : List Weight} {starts : List ℕ} {v : ℕ} → ChainInTable S t blocks → i < blocks → block_round t (i + 1) ≤ block_round t (k + 1) + S.lookback → v ≡ leader_by w (block_round t (i + 1))
+  pub started_next : {k i r : ℕ} {q : ℕ} {w : List Weight} {starts : List ℕ} {v : ℕ} → ChainInTable S t blocks → i < blocks → r ≡ block_round t (i + 1) → r ≤ block_round t (k + 1) + S.lookback → v ≡ unwrap_or (leader_of (weight_in w) r) 16
       → AfterBlocks S t blocks q k w → Started S t blocks k i starts → Started S t blocks k (i + 1) (set starts i v)
-  started_next {k} {i} {q} {w} {starts} {v} a h near e x s =
+  unfolding leader_by
+  started_next {k} {i} {r} {q} {w} {starts} {v} a h at near e x s =
       record {
         size = length-set starts i v ∙ s.size;
         from = let l = s.from in omega arith;
@@ -56,7 +45,7 @@ module _ {S : Settings} {t : List ℕ} {blocks : ℕ} where
       }
     where
       start : v ≡ start_at S t i
-      start = e ∙ rw x.weights (sym (start-now S t blocks a.rounds k i s.from h (λ z. s.ahead z h) near))
+      start = e ∙ rw (at, x.weights) (sym (start-now S t blocks a.rounds k i s.from h (λ z. s.ahead z h) (omega arith)))
 
       few : i < 512
       few = let f = a.few in let c = a.ceiling in omega arith
@@ -75,14 +64,14 @@ module _ {S : Settings} {t : List ℕ} {blocks : ℕ} where
         from = omega arith;
         to = s.to;
         written = s.written;
-        ahead = λ _ u. rw (last_some t (k + 1) (λ z. omega arith)) (a.ahead u);
+        ahead = λ _ u. rw (last_more t k) (a.ahead u);
       }
 
   -- one block more is applied, in its own order
   pub after_applied : {k f : ℕ} {w v : List Weight} {starts : List ℕ} → ChainInTable S t blocks → k < blocks → AfterBlocks S t blocks 1024 k w → StartsAhead S t blocks k f starts
-      → v ≡ rows_over (place_change t (k + 1)) (get_or starts k 0) S.ceiling.0 w → AfterBlocks S t blocks 1024 (k + 1) v
+      → v ≡ rows_over (place_change t (k + 1)) (get_or starts k 0) S.ceiling w → AfterBlocks S t blocks 1024 (k + 1) v
   after_applied {k} {f} {w} {v} a h x s e =
-      let b = (fits-at S.ceiling.0 t blocks a.rounds k h).below in
+      let b = (fits-at S.ceiling t blocks a.rounds k h).below in
       let c = a.ceiling in
       after_next v h (omega arith) (e ∙ rw (s.started.written k s.own) (sym (block-rows S t k w))) x
 

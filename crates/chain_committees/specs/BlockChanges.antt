@@ -22,12 +22,12 @@ record_change t p w = changes (content_at t (p % 16) (p / 16)).transactions w
 
 -- the leader of the round of the block after the first k, 16 for none
 unfoldable pub start_at : Settings → List ℕ → ℕ → ℕ
-start_at S t k = start_of S (block_at S.ceiling.0 t (k + 1)) (chain_of S.ceiling.0 t k)
+start_at S t k = start_of S (block_at S.ceiling t (k + 1)) (chain_of S.ceiling t k)
 
 -- the block after the first k
 unfoldable pub block_change : Settings → List ℕ → ℕ → List Weight → List Weight
 block_change S t k w =
-    changes_of (ordered S (block_at S.ceiling.0 t (k + 1)) (chain_of S.ceiling.0 t k)) w
+    changes_of (ordered S (block_at S.ceiling t (k + 1)) (chain_of S.ceiling t k)) w
 
 -- the first k blocks, oldest first
 unfoldable pub after_blocks : Settings → List ℕ → ℕ → List Weight → List Weight

@@ -36,5 +36,5 @@ pub record InWindow (cache : List ℕ) (r : ℕ) : Type 0 where
 
 pub record Caches (S : Settings) (c : Chain Content) (cache : List ℕ) : Type 0 where
   -- the words of round r are its committee
-  pub committee : (r : ℕ) → r ≤ S.ceiling.0 → InWindow cache r
+  pub committee : (r : ℕ) → r ≤ S.ceiling → InWindow cache r
       → weights_at cache (words_at (first_round cache) r) ≡ committee_of S c r

@@ -8,10 +8,10 @@ use Rattle.chain_committees.specs.BlockChanges.{after_blocks, last_round, blocks
 use Rattle.terms.specs.declared.sheet.Weight.{Weight}
 
 pub record ChainInTable (S : Settings) (t : List ℕ) (blocks : ℕ) : Type 0 where
-  pub ceiling : S.ceiling.0 ≤ 1024
-  pub long : Row t S.ceiling.0
-  pub few : 2 * blocks < S.ceiling.0
-  pub rounds : blocks_fit S.ceiling.0 t blocks ≡ true
+  pub ceiling : S.ceiling ≤ 1024
+  pub long : Row t S.ceiling
+  pub few : 2 * blocks < S.ceiling
+  pub rounds : blocks_fit S.ceiling t blocks ≡ true
   pub total : total_in S.weights ≤ 16000000
   pub margin : MarginFits S.margin
 

@@ -5,4 +5,4 @@ use Rattle.committee.specs.Chain.{chain_of}
 use Rattle.chain_committees.specs.declared.chain.Chain.{Chain}
 
 abbrev pub blocks_in : Chain → Blocks Content
-blocks_in c = chain_of c.settings.now.ceiling.0 c.table.now c.blocks
+blocks_in c = chain_of c.settings.now.ceiling c.table.now c.blocks

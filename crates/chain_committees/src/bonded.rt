@@ -21,7 +21,7 @@ use terms::Round;
 #[tactic(auto, unfolding(crate::specs::BlockChanges::last_round))]
 pub fn last_round(table: &[u32], blocks: u32) -> Round
     requires { Row table.now blocks }
-    ensures { result.0 ≡ last_round table.now blocks }
+    ensures { result ≡ last_round table.now blocks }
 {
     if blocks == 0 {
         Round(0)
@@ -33,8 +33,8 @@ pub fn last_round(table: &[u32], blocks: u32) -> Round
 // Has the block after the first `blocks` an even round, above that of the block before and below the ceiling? All three are asked of each block, without branches.
 #[tactic(auto, unfolding(crate::specs::BlockChanges::block_fits))]
 fn block_fits(table: &[u32], blocks: u32, ceiling: Round) -> bool
-    requires { RowsTo table.now ceiling.0 × (blocks < ceiling.0) }
-    ensures { result ≡ block_fits ceiling.0 table.now blocks }
+    requires { RowsTo table.now ceiling × (blocks < ceiling) }
+    ensures { result ≡ block_fits ceiling table.now blocks }
 {
     let round = store::block_round(table, blocks + 1);
     (round.0 % 2 == 0) & (last_round(table, blocks).0 < round.0) & (round.0 < ceiling.0)
@@ -43,8 +43,8 @@ fn block_fits(table: &[u32], blocks: u32, ceiling: Round) -> bool
 /// Are the block rounds even, rising and below the ceiling? There are at most as many blocks as rounds.
 #[tactic(auto, unfolding(crate::specs::BlockChanges::blocks_fit, base::specs::Folds::all_to))]
 pub fn blocks_fit(table: &[u32], blocks: u32, ceiling: Round) -> bool
-    requires { RowsTo table.now ceiling.0 × (blocks ≤ ceiling.0) }
-    ensures { result ≡ blocks_fit ceiling.0 table.now blocks }
+    requires { RowsTo table.now ceiling × (blocks ≤ ceiling) }
+    ensures { result ≡ blocks_fit ceiling table.now blocks }
 {
     (0..blocks).all(|k| block_fits(table, k, ceiling))
 }
@@ -54,7 +54,7 @@ pub fn blocks_fit(table: &[u32], blocks: u32, ceiling: Round) -> bool
 #[tactic(auto, using(crate::proofs::ChainInTableLaws::committee_starts))]
 pub fn is_starting(chain: Chain, round: Round) -> bool
     ensures { let c = chain.entry in
-        result ≡ true → (q : ℕ) → q ≤ round.0
+        result ≡ true → (q : ℕ) → q ≤ round
         → committee_of c.settings.now (blocks_in c) q ≡ c.settings.now.weights }
 {
     let lookback = chain.settings.lookback;
@@ -65,15 +65,15 @@ pub fn is_starting(chain: Chain, round: Round) -> bool
 
 /// The round before `round`; 0 has none and stays.
 pub(crate) fn round_before(round: Round) -> Round
-    ensures { result.0 ≡ round.0 - 1 }
+    ensures { result ≡ round - 1 }
 {
     Round(round.0.saturating_sub(1))
 }
 
 // Both committees by a walk that is at its start.
-fn walked(mut walk: Walk, round: Round) -> Committees
-    requires { passed walk ≡ 0 }
-    ensures { let c = walk.entry.chain in PairOf c.settings.now (blocks_in c) round.0 result }
+fn walked(walk: &mut Walk, round: Round) -> Committees
+    requires { passed walk.old ≡ 0 }
+    ensures { let c = walk.old.chain in PairOf c.settings.now (blocks_in c) round result }
 {
     walk.reach(round_before(round));
     let before = walk.committee();
@@ -84,7 +84,7 @@ fn walked(mut walk: Walk, round: Round) -> Committees
 
 /// The committees of `round` and of the one before it; a round up to lookback has the starting weights.
 pub(crate) fn committees_of(chain: Chain, round: Round) -> Committees
-    ensures { let c = chain.entry in PairOf c.settings.now (blocks_in c) round.0 result }
+    ensures { let c = chain.entry in PairOf c.settings.now (blocks_in c) round result }
 {
     if is_starting(chain, round) {
         let starting = chain.starting();
@@ -93,21 +93,22 @@ pub(crate) fn committees_of(chain: Chain, round: Round) -> Committees
             at: starting,
         };
     }
-    over_blocks!(chain, walk => walked(walk, round))
+    over_blocks!(chain, walk => walked(&mut walk, round))
 }
 
 /// The committee of `round`.
 pub fn committee_of(chain: Chain, round: Round) -> Committee
     ensures weights { let c = chain.entry in
-        result.weights ≡ committee_of c.settings.now (blocks_in c) round.0 }
+        result.weights ≡ committee_of c.settings.now (blocks_in c) round }
     ensures margin { result.margin ≡ chain.entry.settings.now.margin }
 {
     committees_of(chain, round).at
 }
 
 /// Does the chain tell the committee of `round`? It does up to lookback + 2 rounds after its newest block.
+#[tactic(auto, using(crate::proofs::ChainLaws::last_of_chain), unfolding(committee::specs::Committees::known_by))]
 pub fn known(chain: Chain, round: Round) -> bool
-    ensures { let c = chain.entry in result ≡ known_by c.settings.now (blocks_in c) round.0 }
+    ensures { let c = chain.entry in result ≡ known_by c.settings.now (blocks_in c) round }
 {
     let newest = last_round(chain.table, chain.blocks);
     round.0 as u64 <= chain.settings.lookback as u64 + (newest.0 as u64 + 2)

@@ -36,6 +36,7 @@ pub fn weights_at(cache: &[u64], at: usize) -> [Weight; 16]
 }
 
 /// Puts sixteen weights from `at` on.
+#[tactic(auto, using(crate::proofs::CacheLaws::put_more))]
 pub fn put_weights(weights: &[Weight; 16], at: usize, cache: &mut [u64])
     requires { at + 16 ≤ length cache.old }
     ensures { (length weights.now ≡ 16)
@@ -48,14 +49,14 @@ pub fn put_weights(weights: &[Weight; 16], at: usize, cache: &mut [u64])
 
 /// The words of a cache from round 0 on that has room up to the committee of `round`.
 pub fn words_to(round: Round) -> usize
-    ensures { result ≡ words_to round.0 }
+    ensures { result ≡ words_to round }
 {
     round.0 as usize * COMMITTEE + ONE_ROUND
 }
 
 /// Is `round` in the window, with room for its weights, and not above the ceiling?
 pub fn is_cached(cache: &[u64], ceiling: Round, round: Round) -> bool
-    ensures { result ≡ true → (round.0 ≤ ceiling.0) × InWindow cache.now round.0 }
+    ensures { result ≡ true → (round ≤ ceiling) × InWindow cache.now round }
 {
     let q = round.0 as u64;
     round.0 <= ceiling.0
@@ -68,10 +69,10 @@ pub fn is_cached(cache: &[u64], ceiling: Round, round: Round) -> bool
 #[tactic(auto, using(crate::proofs::ChainInTableLaws::committee_bounded))]
 fn cached_at(cache: &[u64], chain: Chain, round: Round) -> Committee
     requires caches { let c = chain in Caches c.settings.now (blocks_in c) cache.now }
-    requires round { round.0 ≤ chain.settings.now.ceiling.0 }
-    requires window { InWindow cache.now round.0 }
+    requires round { round ≤ chain.settings.now.ceiling }
+    requires window { InWindow cache.now round }
     ensures weights { let c = chain.entry in
-        result.weights ≡ committee_of c.settings.now (blocks_in c) round.0 }
+        result.weights ≡ committee_of c.settings.now (blocks_in c) round }
     ensures margin { result.margin ≡ chain.entry.settings.now.margin }
 {
     let at = (round.0 as u64 - cache[0]) as usize * COMMITTEE + ROUNDS;
@@ -84,7 +85,7 @@ fn cached_at(cache: &[u64], chain: Chain, round: Round) -> Committee
 /// The committees of `round` and of the one before it: those cached, or else by a walk over the blocks.
 pub fn committees(cache: &[u64], chain: Chain, round: Round) -> Committees
     requires { let c = chain in Caches c.settings.now (blocks_in c) cache.now }
-    ensures { let c = chain.entry in PairOf c.settings.now (blocks_in c) round.0 result }
+    ensures { let c = chain.entry in PairOf c.settings.now (blocks_in c) round result }
 {
     let ceiling = chain.settings.ceiling;
     let previous = bonded::round_before(round);
@@ -102,7 +103,7 @@ pub fn committees(cache: &[u64], chain: Chain, round: Round) -> Committees
 pub fn committee(cache: &[u64], chain: Chain, round: Round) -> Committee
     requires { let c = chain in Caches c.settings.now (blocks_in c) cache.now }
     ensures weights { let c = chain.entry in
-        result.weights ≡ committee_of c.settings.now (blocks_in c) round.0 }
+        result.weights ≡ committee_of c.settings.now (blocks_in c) round }
     ensures margin { result.margin ≡ chain.entry.settings.now.margin }
 {
     if is_cached(cache, chain.settings.ceiling, round) {
@@ -116,14 +117,15 @@ pub fn committee(cache: &[u64], chain: Chain, round: Round) -> Committee
 
 // The rounds from the first up to the ceiling, by a walk that is at its start.
 #[tactic(auto, using(crate::proofs::CacheLaws::caches_more))]
-fn cache_rounds(mut walk: Walk, first: Round, cache: &mut [u64])
-    requires { (passed walk ≡ 0) × (first.0 ≤ walk.chain.settings.now.ceiling.0)
+fn cache_rounds(walk: &mut Walk, first: Round, cache: &mut [u64])
+    requires { (passed walk.old ≡ 0) × (first ≤ walk.old.chain.settings.now.ceiling)
         × (ONE_ROUND ≤ length cache.old) }
-    ensures caches { let c = walk.entry.chain in Caches c.settings.now (blocks_in c) cache.new }
-    ensures begins { first_round cache.new ≡ first.0 }
+    ensures caches { let c = walk.old.chain in Caches c.settings.now (blocks_in c) cache.new }
+    ensures begins { first_round cache.new ≡ first }
 {
     cache[0] = first.0 as u64;
-    for q in first.0..walk.chain.settings.ceiling.0 + 1 {
+    let ceiling = walk.chain.settings.ceiling;
+    for q in first.0..ceiling.0 + 1 {
         let at = (q - first.0) as usize * COMMITTEE + ROUNDS;
         if cache.len() < at + COMMITTEE {
             return;
@@ -136,13 +138,13 @@ fn cache_rounds(mut walk: Walk, first: Round, cache: &mut [u64])
 /// Caches the committees of the rounds from `first` on, up to the ceiling, for as many as there is room: a word for the first round, and sixteen for each.
 /// A cache of less than 17 words stays, and has no round.
 pub fn fill_cache(chain: Chain, first: Round, cache: &mut [u64])
-    requires { first.0 ≤ chain.settings.now.ceiling.0 }
+    requires { first ≤ chain.settings.now.ceiling }
     ensures caches { let c = chain.entry in Caches c.settings.now (blocks_in c) cache.new }
-    ensures begins { ONE_ROUND ≤ length cache.old → first_round cache.new ≡ first.0 }
+    ensures begins { ONE_ROUND ≤ length cache.old → first_round cache.new ≡ first }
     ensures short { length cache.old < ONE_ROUND → cache.new ≡ cache.old }
 {
     if cache.len() < ONE_ROUND {
         return;
     }
-    over_blocks!(chain, walk => cache_rounds(walk, first, cache))
+    over_blocks!(chain, walk => cache_rounds(&mut walk, first, cache))
 }

@@ -9,20 +9,20 @@ use crate::chain::Chain;
 use crate::over_blocks;
 use crate::walk::Walk;
 use committee::committees::Committee;
-use committee::weighing;
+use committee::leader;
 use terms::Round;
 
 // The leaders by a walk that is at its start.
 #[tactic(auto, using(crate::proofs::FillLaws::fill_none, crate::proofs::FillLaws::fill_more), unfolding(crate::specs::Fill::leader_at, committee::specs::Committees::leader_by))]
-fn filled(mut walk: Walk, low: Round, top: Round, leaders: &mut [u32; 1025]) -> Committee
-    requires { (passed walk ≡ 0) × RoundSpan low.0 top.0 }
-    ensures { let c = walk.entry.chain in
-        LeadersFilled c.settings.now (blocks_in c) low.0 top.0 leaders.old leaders.new result }
+fn filled(walk: &mut Walk, low: Round, top: Round, leaders: &mut [u32; 1025]) -> Committee
+    requires { (passed walk.old ≡ 0) × RoundSpan low top }
+    ensures { let c = walk.old.chain in
+        LeadersFilled c.settings.now (blocks_in c) low top leaders.old leaders.new result }
 {
     for q in low.0..top.0 {
         let round = Round(q + 1);
         walk.reach(round);
-        leaders[q as usize + 1] = weighing::leader::leader(&walk.weights, round).0;
+        leaders[q as usize + 1] = leader::leader(&walk.weights, round).0;
     }
     walk.reach(Round(top.0 + 1));
     walk.committee()
@@ -31,9 +31,9 @@ fn filled(mut walk: Walk, low: Round, top: Round, leaders: &mut [u32; 1025]) -> 
 /// Writes the number of the leader of each round above `low` up to `top` into `leaders`, by round, 16 for none; gives the committee of the round above `top`.
 /// The span may be empty, and goes up to 1,024; the ceiling is no bound of it. All else of `leaders` stays.
 pub fn fill_leaders(chain: Chain, low: Round, top: Round, leaders: &mut [u32; 1025]) -> Committee
-    requires { RoundSpan low.0 top.0 }
+    requires { RoundSpan low top }
     ensures { let c = chain.entry in
-        LeadersFilled c.settings.now (blocks_in c) low.0 top.0 leaders.old leaders.new result }
+        LeadersFilled c.settings.now (blocks_in c) low top leaders.old leaders.new result }
 {
-    over_blocks!(chain, walk => filled(walk, low, top, leaders))
+    over_blocks!(chain, walk => filled(&mut walk, low, top, leaders))
 }

@@ -3,6 +3,7 @@
 //! The rows of a block start with the leader of its round, whose committee is that of lookback rounds before: so the start of each block is told before the blocks from there on are applied (specs/Starts).
 
 ghost use Rattle.std.specs.Prelude.{◌≡◌, ◌+◌, ◌*◌, ◌<◌};
+ghost use Rattle.committee.specs.Totals.{TotalBounded};
 ghost use Rattle.chain_committees.specs.ChainInTable.{AfterFirst};
 ghost use Rattle.chain_committees.specs.Links.{AllLinked};
 ghost use Rattle.chain_committees.specs.Starts.{Started, StartsAhead};
@@ -10,7 +11,7 @@ ghost use Rattle.chain_committees.specs.Starts.{Started, StartsAhead};
 use crate::chain::Chain;
 use crate::changes::{block, links};
 use committee::committees::Committee;
-use committee::weighing;
+use committee::leader;
 use terms::sheet::Weight;
 use terms::{Member, Round};
 
@@ -31,8 +32,9 @@ pub struct Walk<'a> {
     pub starts: [u32; 512],
     /// The committee that the applied blocks leave.
     pub weights: [Weight; 16],
-    ghost linked: { AllLinked chain.table.now chain.settings.now.ceiling.0 head next.now },
+    ghost linked: { AllLinked chain.table.now chain.settings.now.ceiling head next.now },
     ghost after: { AfterFirst chain.settings.now chain.table.now chain.blocks applied weights },
+    ghost bounded: { TotalBounded weights },
     ghost started: { Started chain.settings.now chain.table.now chain.blocks applied begun starts },
 }
 
@@ -53,12 +55,13 @@ fn fill_starts(
         StartsAhead c.settings.now c.table.now c.blocks applied result starts.new }
 {
     let at = store::block_round(chain.table, applied + 1);
+    let last = at.0 as u64 + chain.settings.lookback as u64;
     for i in begun..chain.blocks {
         let round = store::block_round(chain.table, i + 1);
-        if chain.settings.lookback < round.0 - at.0 {
+        if last < round.0 as u64 {
             return i;
         }
-        starts[i as usize] = weighing::leader::leader(weights, round).0;
+        starts[i as usize] = leader::leader(weights, round).0;
     }
     chain.blocks
 }
@@ -66,7 +69,6 @@ fn fill_starts(
 impl<'a> Walk<'a> {
     ghost use Rattle.std.specs.Prelude.{◌≡◌, ◌+◌, ◌-◌, ◌*◌, ◌<◌, ◌≤◌, ℕ, get_or, length};
     ghost use Rattle.committee.specs.Committees.{committee_of, bonded_from};
-    ghost use Rattle.committee.specs.Totals.{TotalBounded};
     ghost use Rattle.chain_committees.specs.BlockChanges.{start_at};
     ghost use Rattle.chain_committees.specs.Told.{blocks_in};
     ghost use Rattle.chain_committees.specs.Walks.{passed};
@@ -74,7 +76,7 @@ impl<'a> Walk<'a> {
     /// The start of a walk: no block is applied. `next` has a word for each place of the rounds from 0 up to the ceiling, and is written.
     #[tactic(auto, using(crate::proofs::ChainLaws::last_none))]
     pub fn new(chain: Chain<'a>, next: &'a mut [u32]) -> Walk<'a>
-        requires { chain.settings.now.ceiling.0 * 16 + 16 ≤ length next.old }
+        requires { chain.settings.now.ceiling * 16 + 16 ≤ length next.old }
         ensures chain { result.chain ≡ chain.entry }
         ensures start { passed result ≡ 0 }
     {
@@ -113,13 +115,14 @@ impl<'a> Walk<'a> {
     }
 
     // Applies the blocks whose rounds are below `round`, which is 1 at least. None of a later round may be applied.
+    #[tactic(auto, using(crate::proofs::ChainLaws::last_more, crate::proofs::ChainInTableLaws::bonded_reached))]
     fn apply_below(&mut self, round: Round)
-        requires from { 1 ≤ round.0 }
-        requires passed { passed self.old ≤ round.0 - 1 }
+        requires from { 1 ≤ round }
+        requires passed { passed self.old ≤ round - 1 }
         ensures chain { self.new.chain ≡ self.old.chain }
-        ensures passed { passed self.new ≤ round.0 - 1 }
+        ensures passed { passed self.new ≤ round - 1 }
         ensures bonded { let c = self.new.chain in
-            self.new.weights ≡ bonded_from c.settings.now (blocks_in c) round.0 }
+            self.new.weights ≡ bonded_from c.settings.now (blocks_in c) round }
     {
         while self.applied < self.chain.blocks
             && store::block_round(self.chain.table, self.applied + 1).0 < round.0
@@ -131,11 +134,11 @@ impl<'a> Walk<'a> {
     /// Goes on to the committee of `round`: blocks count whose rounds lie more than lookback rounds before it. None of a later round may be applied.
     #[tactic(auto, using(crate::proofs::ChainInTableLaws::committee_reached))]
     pub fn reach(&mut self, round: Round)
-        requires { passed self.old ≤ round.0 - self.old.chain.settings.now.lookback - 1 }
+        requires { passed self.old ≤ round - self.old.chain.settings.now.lookback - 1 }
         ensures chain { self.new.chain ≡ self.old.chain }
-        ensures passed { passed self.new ≤ round.0 - self.new.chain.settings.now.lookback - 1 }
+        ensures passed { passed self.new ≤ round - self.new.chain.settings.now.lookback - 1 }
         ensures committee { let c = self.new.chain in
-            self.new.weights ≡ committee_of c.settings.now (blocks_in c) round.0 }
+            self.new.weights ≡ committee_of c.settings.now (blocks_in c) round }
         ensures bounded { TotalBounded self.new.weights }
     {
         let lookback = self.chain.settings.lookback;
@@ -167,6 +170,7 @@ impl<'a> Walk<'a> {
     }
 
     /// The number of the leader of the round of the block after the first `before`, 16 for none, where it is written.
+    #[tactic(auto, using(crate::proofs::StartLaws::start_le))]
     pub fn start(&self, before: u32) -> Member
         requires { before < self.now.begun }
         ensures start { let c = self.now.chain in
@@ -181,7 +185,7 @@ impl<'a> Walk<'a> {
 #[macro_export]
 macro_rules! over_blocks {
     ($chain:expr, $walk:ident => $made:expr) => {
-        if $chain.settings.ceiling.0 <= $crate::changes::links::FEW_ROUNDS {
+        if $crate::changes::links::are_few($chain.settings.ceiling) {
             let mut next = [0; $crate::changes::links::FEW];
             let mut $walk = $crate::walk::Walk::new($chain, &mut next);
             $made

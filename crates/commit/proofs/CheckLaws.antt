@@ -1,6 +1,6 @@
 -- The number that refuses a commit, by its checks, and what an accepted one gives.
 use Rattle.std.proofs.Common.{◌≡◌, refl, sym, ◌∙◌, true, false, List, ◌≢◌, ℕ, ◌-◌, arith}
-use native.Mathlib.Decide.{ℕ_discrete}
+use Rattle.base.proofs.Words.{ℕ_discrete}
 use Rattle.base.specs.Checks.{refusal}
 use Rattle.base.proofs.CheckLaws.{first-refuses, first_passes, numbered}
 use Rattle.base.specs.Sets.{contains}
@@ -41,7 +41,7 @@ module _ (s : State) (t : List ℕ) where
     pub in_time : refusal (time_checks s t) ≡ 0
     pub timely : Timely s t
     pub voted : refusal (vote_checks s t) ≡ 0
-    pub led : contains (held_set t (s.round.0 - 1)) (leader_on s t (s.round.0 - 1)) ≡ true
+    pub led : contains (held_set t (s.round - 1)) (leader_on s t (s.round - 1)) ≡ true
 
   pub accepted : commit_refusal s t ≡ 0 → Accepted
   unfolding commit_refusal

@@ -29,7 +29,7 @@ use Rattle.commit.proofs.ShownLaws.{shows, marks-fit, chain-shown}
 use Rattle.rules.specs.Calls as rules
 
 -- the anchor of a round is the certificate of the leader that the list has
-leader-anchor : (s : State) (t : List ℕ) (q : ℕ) → 0 < q → q ≤ s.settings.ceiling.0 → get_or (leaders_for s t) q 0 ≡ leader_on s t q
+leader-anchor : (s : State) (t : List ℕ) (q : ℕ) → 0 < q → q ≤ s.settings.ceiling → get_or (leaders_for s t) q 0 ≡ leader_on s t q
     → anchor_at (view s t) q ≡ anchor_in (view s t) (leaders_for s t) q
 leader-anchor s t q from to e = anchor-on s t q from to ∙ go (contains (held_set t q) a) refl ∙ sym (anchor_in_lem (view s t) (leaders_for s t) q a e)
   where
@@ -37,8 +37,8 @@ leader-anchor s t q from to e = anchor-on s t q from to ∙ go (contains (held_s
     a = leader_on s t q
 
     go : (b : Bool) → contains (held_set t q) a ≡ b → ◌≡◌ {A = Option Content} (cond b (Some (content_at t a q)) None) (cond (ltb a 16) ((view s t).dag a q) None)
-    go true h = rw (lt-ltb a 16 (in_member (held_set t q) a h)) (sym (dag-at s.settings.ceiling.0 t a q from to ∙ certificate-present t a q (held_in t a q ∙ h)))
-    go false h = rw (dag-at s.settings.ceiling.0 t a q from to, certificate-absent t a q (held_in t a q ∙ h)) (sym (cond_same (ltb a 16) None))
+    go true h = rw (lt-ltb a 16 (in_member (held_set t q) a h)) (sym (dag-at s.settings.ceiling t a q from to ∙ certificate-present t a q (held_in t a q ∙ h)))
+    go false h = rw (dag-at s.settings.ceiling t a q from to, certificate-absent t a q (held_in t a q ∙ h)) (sym (cond_same (ltb a 16) None))
 
 -- the state after an accepted commit
 abbrev pub committed_state : State → List ℕ → State
@@ -46,10 +46,10 @@ committed_state s t = with_blocks s (blocks_then s t)
 
 module _ (s : State) (t : List ℕ) (ok : commit_refusal s t ≡ 0) where
   abbrev n : ℕ
-  n = s.settings.ceiling.0
+  n = s.settings.ceiling
 
   abbrev r : ℕ
-  r = s.round.0
+  r = s.round
 
   abbrev m : ℕ
   m = last_round t s.blocks

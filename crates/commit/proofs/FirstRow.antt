@@ -10,4 +10,4 @@ use Rattle.commit.proofs.CheckLaws.{accepted}
 
 pub first-commit : (s : State) (t : List ℕ) → commit_refusal s t ≡ 0 → SameFirst t (committed_table s t)
 unfolding committed_table
-first-commit s t ok = let w = (accepted s t ok).timely in commit-first (last_round t s.blocks) (s.round.0 - 1) s.blocks (leaders_for s t) t w.few w.above
+first-commit s t ok = let w = (accepted s t ok).timely in commit-first (last_round t s.blocks) (s.round - 1) s.blocks (leaders_for s t) t w.few w.above

@@ -1,6 +1,6 @@
 -- The histories on the table are those of the theory.
 use Rattle.std.proofs.Common.{◌≡◌, refl, sym, ap, ap₂, ◌∙◌, Bool, true, false, ◌&&◌, List, ℕ, zero, suc, ◌-◌, ◌≤◌, ◌<◌, arith, Some}
-use native.Mathlib.Decide.{dec_lt}
+use Rattle.base.proofs.Words.{dec_lt}
 use Rattle.base.specs.Folds.{any_to}
 use Rattle.base.proofs.TestLaws.{any_same}
 use Rattle.base.specs.Sets.{contains, only}

@@ -23,36 +23,36 @@ use Rattle.commit.proofs.PreservedLaws.{count-commit}
 
 module _ (s : State) (t : List ℕ) where
   -- the anchor has an author
-  led-low : Formed s t → Timely s t → refusal (vote_checks s t) ≡ 0 → (l : List ℕ) → l ≡ leaders_for s t → get_or l (s.round.0 - 1) 0 < 16
+  led-low : Formed s t → Timely s t → refusal (vote_checks s t) ≡ 0 → (l : List ℕ) → l ≡ leaders_for s t → get_or l (s.round - 1) 0 < 16
   led-low f w v l e = rw (led_on s t f w.from l e w.above) (in_member _ _ (voted s t f w.from v))
 
   -- blocks are only added
-  blocks_more : Timely s t → (m : ℕ) → m ≡ last_round t s.blocks → (l : List ℕ) → s.blocks ≤ commit_count m (s.round.0 - 1) s.blocks l t
-  blocks_more w m i l = (commit-stage m (s.round.0 - 1) s.blocks l t (rw i w.few) (rw i w.above)).more
+  blocks_more : Timely s t → (m : ℕ) → m ≡ last_round t s.blocks → (l : List ℕ) → s.blocks ≤ commit_count m (s.round - 1) s.blocks l t
+  blocks_more w m i l = (commit-stage m (s.round - 1) s.blocks l t (rw i w.few) (rw i w.above)).more
 
   module _ (ok : commit_refusal s t ≡ 0) where
-    pub ready : (l : List ℕ) → l ≡ leaders_for s t → (m : ℕ) → m ≡ last_round t s.blocks → CommitReady t l m (s.round.0 - 1) s.blocks
+    pub ready : (l : List ℕ) → l ≡ leaders_for s t → (m : ℕ) → m ≡ last_round t s.blocks → CommitReady t l m (s.round - 1) s.blocks
     ready l i m q =
         let a = accepted s t ok in
         let f = a.formed in
         let w = a.timely in
         let n = leaders-length s t l i in
-        let k : s.round.0 ≤ 1024 = omega (arith, f.numbers.round_to, f.settings.ceiling_to) in
+        let k : s.round ≤ 1024 = omega (arith, f.numbers.round_to, f.settings.ceiling_to) in
         record {
           few = omega (arith, w.few);
           round = omega arith;
           anchors = record { above = omega (arith, w.above); row = omega (arith, f.long); listed = omega arith; member = led-low f w a.voted l i };
         }
 
-    more : (l : List ℕ) → (m : ℕ) → m ≡ last_round t s.blocks → (k : ℕ) → k ≡ commit_count m (s.round.0 - 1) s.blocks l t → s.blocks ≤ k
+    more : (l : List ℕ) → (m : ℕ) → m ≡ last_round t s.blocks → (k : ℕ) → k ≡ commit_count m (s.round - 1) s.blocks l t → s.blocks ≤ k
     more l m q k j = rw j (blocks_more (accepted s t ok).timely m q l)
 
   module _ (l : List ℕ) (i : l ≡ leaders_for s t) (m : ℕ) (q : m ≡ last_round t s.blocks) where
-    count : (k : ℕ) → k ≡ commit_count m (s.round.0 - 1) s.blocks l t → k ≡ blocks_then s t
+    count : (k : ℕ) → k ≡ commit_count m (s.round - 1) s.blocks l t → k ≡ blocks_then s t
     unfolding blocks_then
     count k j = j ∙ rw (i, q) refl
 
-    table : (u : List ℕ) → u ≡ commit_table m (s.round.0 - 1) s.blocks l t → u ≡ committed_table s t
+    table : (u : List ℕ) → u ≡ commit_table m (s.round - 1) s.blocks l t → u ≡ committed_table s t
     unfolding committed_table
     table u j = j ∙ rw (i, q) refl
 
@@ -96,7 +96,7 @@ pub record Made (s : State) (t : List ℕ) (k : ℕ) (u : List ℕ) : Type 0 whe
   pub table : u ≡ commit_table_after s t
   pub ruled : RulesGive s t (k - s.blocks) (with_blocks s k) u
 
-pub made : {s : State} {t l : List ℕ} {m k : ℕ} {u l' : List ℕ} → Passed s t l → m ≡ last_round t s.blocks → CommitMade l m (s.round.0 - 1) s.blocks t k u l' → Made s t k u
+pub made : {s : State} {t l : List ℕ} {m k : ℕ} {u l' : List ℕ} → Passed s t l → m ≡ last_round t s.blocks → CommitMade l m (s.round - 1) s.blocks t k u l' → Made s t k u
 made {s} {t} {l} {m} {k} {u} p q x =
     let ok = p.accepted in
     let n = count s t l p.leaders m q k x.count in

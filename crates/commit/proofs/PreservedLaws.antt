@@ -1,6 +1,6 @@
 -- After an accepted commit: the state stays well formed, at least one block is new, and nothing beyond the rounds of the state changes.
 use Rattle.std.proofs.Common.{◌≡◌, refl, ap, ◌∙◌, true, List, ⊎_elim, ℕ, ◌+◌, ◌-◌, ◌/◌, ◌%◌, ◌<◌, ◌≤◌, arith, get_or, length, drop}
-use native.Mathlib.Decide.{ℕ_discrete, dec_lt}
+use Rattle.base.proofs.Words.{ℕ_discrete, dec_lt}
 use Rattle.base.proofs.SetLaws.{in_member}
 use Rattle.store.specs.Table.{used_length, Row, block_round, held_at, mark_at}
 use Rattle.store.proofs.TableLaws.{held-member}
@@ -29,10 +29,10 @@ use Rattle.commit.proofs.CommitLaws.{committed_state, only-marks}
 
 module _ (s : State) (t : List ℕ) (ok : commit_refusal s t ≡ 0) where
   abbrev n : ℕ
-  n = s.settings.ceiling.0
+  n = s.settings.ceiling
 
   abbrev r : ℕ
-  r = s.round.0
+  r = s.round
 
   abbrev k : ℕ
   k = s.blocks

@@ -22,7 +22,7 @@ use Rattle.agreement.specs.Marks as marks
 
 module _ (s : State) (t : List ℕ) where
   abbrev n : ℕ
-  n = s.settings.ceiling.0
+  n = s.settings.ceiling
 
   abbrev v : MemberView s.settings
   v = view s t

@@ -21,11 +21,11 @@ module _ (s : State) (t : List ℕ) where
 
   -- how many blocks there are after an accepted commit, and the table
   unfoldable pub blocks_then : ℕ
-  blocks_then = commit_count (last_round t s.blocks) (s.round.0 - 1) s.blocks (leaders_for s t) t
+  blocks_then = commit_count (last_round t s.blocks) (s.round - 1) s.blocks (leaders_for s t) t
 
   unfoldable pub committed_table : List ℕ
   committed_table =
-      commit_table (last_round t s.blocks) (s.round.0 - 1) s.blocks (leaders_for s t) t
+      commit_table (last_round t s.blocks) (s.round - 1) s.blocks (leaders_for s t) t
 
   -- a refused commit changes nothing
   unfoldable pub commit_state : State

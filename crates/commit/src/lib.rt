@@ -17,7 +17,7 @@ use terms::Round;
 use votes::checks;
 
 /// The call, where it is known whether the state is well formed. The value is the number of blocks added.
-#[tactic(auto, unfolding(base::specs::Checks::refusal, state::specs::Refusals::refusal_of, state::specs::Answers::if_accepted, crate::specs::Commit::commit_refusal, crate::specs::Commit::commit_state, crate::specs::Commit::commit_table_after))]
+#[tactic(auto, using(crate::proofs::MadeLaws::passed, crate::proofs::MadeLaws::ready), unfolding(base::specs::Checks::refusal, state::specs::Refusals::refusal_of, state::specs::Answers::if_accepted, crate::specs::Commit::commit_refusal, crate::specs::Commit::commit_state, crate::specs::Commit::commit_table_after))]
 pub fn commit_cached(formed: bool, state: &mut State, table: &mut [u32]) -> Result<u32, Refusal>
     requires { formed ≡ well_formed state.old table.old }
     ensures refusal { refusal_in result ≡ commit_refusal state.old table.old }
@@ -30,7 +30,8 @@ pub fn commit_cached(formed: bool, state: &mut State, table: &mut [u32]) -> Resu
     checks::check(&View::known(formed, &[], state, table)?, &mut leaders)?;
     let blocks = state.blocks;
     let last = bonded::last_round(table, blocks);
-    let top = Round(state.round.0 - 1);
+    let round = state.round;
+    let top = Round(round.0 - 1);
     state.blocks = making::commit_blocks(table, &mut leaders, last, top, blocks);
     let added = state.blocks - blocks;
     Ok(added)

@@ -1,6 +1,6 @@
 -- No share moves by more than 1 plus the whole part of 1,000 times the amount divided by the total after the bond.
 use Rattle.std.proofs.Common.{◌≡◌, sym, ◌∙◌, Bool, true, false, cond, List, ℕ, zero, suc, ◌+◌, ◌*◌, ◌<◌, ◌≤◌, max, arith, length, get_or, eqb}
-use native.Mathlib.Decide.{ℕ_discrete, dec_lt}
+use Rattle.base.proofs.Words.{ℕ_discrete, dec_lt}
 use Rattle.base.proofs.Ranges.{fold_none, fold_next}
 use Rattle.base.proofs.FoldLaws.{get_d_tab}
 use Rattle.base.proofs.SumLaws.{sum_same, sum_add, sum_at, sum_only}
@@ -21,6 +21,8 @@ share-at w i h = get_d_tab (share_in w) 16 i 0 h
 pub share-none : (n : ℕ) → 0 < n → share_of 0 n ≡ 0
 unfolding share_of
 share-none n h = let l = nearest_le (1000 * 0) n 0 h (omega arith) in omega arith
+
+pub ruleset unweighted = share-none
 
 -- each weight is a part of the total
 pub part_of_total : {w : List Weight} {n : ℕ} → TotalOf w n → (i : ℕ) → i < 16 → PartOf (weight_in w i) n

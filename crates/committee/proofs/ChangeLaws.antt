@@ -1,6 +1,6 @@
 -- Changes: what one does to each weight; and as folds, transaction by transaction, place by place, row by row.
 use Rattle.std.proofs.Common.{◌≡◌, refl, sym, ap, ◌∙◌, Bool, true, false, cond, List, [], ◌∷◌, ◌++◌, ℕ, zero, suc, ◌+◌, ◌%◌, ◌<◌, arith, set, length, length-set, eqb, ltb, eq-eqb, ne_eqb, lt-ltb, le-ltb}
-use native.Mathlib.Decide.{ℕ_discrete, dec_lt}
+use Rattle.base.proofs.Words.{ℕ_discrete, dec_lt}
 use Rattle.base.specs.Folds.{fold_to, tab}
 use Rattle.base.proofs.Ranges.{fold_none, fold_next, tab_none, tab_next}
 use Rattle.agreement.specs.Rules.{Block}

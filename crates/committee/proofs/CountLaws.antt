@@ -1,7 +1,6 @@
 -- A set as a number: the members of its lower and of its upper digits, and how many digits are 1.
 use Rattle.std.proofs.Common.{◌≡◌, refl, sym, cond, ℕ, zero, suc, ◌+◌, ◌-◌, ◌/◌, ◌%◌, ◌*◌, ◌^◌, ◌<◌, arith, pow-suc, eqb, shr-shr}
-use lib.Count.{ones, ones_in, ones_step}
-use lib.Pow.{field, mod-mod-pow}
+use Rattle.base.proofs.Words.{ones, ones_in, ones_step, field, mod-mod-pow}
 use Rattle.base.specs.Folds.{sum_to}
 use Rattle.base.specs.Sets.{mem}
 use Rattle.base.proofs.SetLaws.{mem-zero}

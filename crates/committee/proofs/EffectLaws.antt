@@ -1,23 +1,12 @@
 -- Laws of what a transaction does to one weight, in numbers alone.
-use Rattle.std.proofs.Common.{◌≡◌, refl, ◌∙◌, Bool, true, false, cond, List, ℕ, zero, suc, ◌+◌, ◌%◌, ◌<◌, ◌≤◌, arith, set, ltb, lt-ltb, le-ltb, ltb-false}
-use native.Mathlib.Decide.{dec_lt}
-use lib.Seq.{set-get_or}
+use Rattle.std.proofs.Common.{◌≡◌, refl, ◌∙◌, Bool, true, false, cond, List, ℕ, zero, suc, ◌+◌, ◌%◌, ◌<◌, ◌≤◌, arith, set, ltb, lt-ltb, le-ltb}
+use Rattle.base.proofs.Words.{dec_lt, set-get_or}
 use Rattle.terms.specs.Transactions.{read_transaction}
 use Rattle.terms.proofs.ProposalLaws.{read-bond, read-unbond, read-entry}
 use Rattle.terms.specs.declared.sheet.Weight.{Weight}
 use Rattle.terms.specs.Ranges.{weight, weight_in}
 use Rattle.committee.specs.Changes.{change}
 use Rattle.committee.specs.WeightEffects.{effect_of, weight_after}
-
-pub effect_le : (there : Bool) (kind number : ℕ) → effect_of there kind number ≤ 2
-unfolding effect_of
-effect_le false kind number = omega arith
-effect_le true kind number = go (ltb 15 number) (ltb 2 kind) refl
-  where
-    go : (a b : Bool) → ltb 2 kind ≡ b → cond a 2 (cond b 2 kind) ≤ 2
-    go true b e = omega arith
-    go false true e = omega arith
-    go false false e = ltb-false 2 kind e
 
 -- no effect leaves the weights as they are
 still : (w : List Weight) (i amount : ℕ) → set w i (weight (weight_after 2 amount (weight_in w i))) ≡ w

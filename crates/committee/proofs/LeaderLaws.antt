@@ -1,8 +1,6 @@
 -- Laws of leaders.
 use Rattle.std.proofs.Common.{◌≡◌, refl, sym, ap, ◌∙◌, Bool, true, false, cond, ◌&&◌, List, ℕ, zero, suc, ◌/◌, ◌%◌, ◌≤◌, ◌<◌, arith, eqb, leb, ltb, eq-eqb, ne_eqb, le-leb, lt-ltb, le-ltb, None, unwrap_or}
-use mathlib.Core.Bool.{and-false}
-use native.Mathlib.Decide.{ℕ_discrete, dec_lt}
-use borrow.Author.Tests.{lt-leb}
+use Rattle.base.proofs.Words.{and-false, ℕ_discrete, dec_lt, lt-leb}
 use Rattle.base.specs.Folds.{fold_to}
 use Rattle.base.proofs.Ranges.{fold_none, fold_next}
 use Rattle.base.specs.Sets.{contains, insert}

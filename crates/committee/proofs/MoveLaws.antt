@@ -1,7 +1,6 @@
 -- How far a bond moves a share: at most 1 plus the whole part of 1,000 k / (n + k).
 use Rattle.std.proofs.Common.{ℕ, ◌+◌, ◌*◌, ◌/◌, ◌≤◌, ◌<◌, arith, mul-le-mul_left}
-use native.Mathlib.Decide.{dec_lt}
-use native.Mathlib.Nat.{lt-div-mul-add}
+use Rattle.base.proofs.Words.{dec_lt, lt-div-mul-add}
 use Rattle.committee.specs.Shares.{share_of, apart, Near}
 use Rattle.committee.proofs.ShareLaws.{share-near, share_le}
 

@@ -1,7 +1,6 @@
 -- Laws of members by position.
 use Rattle.std.proofs.Common.{◌≡◌, refl, Bool, true, false, cond, ◌&&◌, ℕ, zero, suc, ◌+◌, ◌-◌, ◌<◌, ◌≤◌, arith, add-zero, add-suc, eqb, eq-eqb, ne_eqb, Option, Some, None, unwrap_or}
-use mathlib.Core.Bool.{and-false}
-use native.Mathlib.Decide.{ℕ_discrete}
+use Rattle.base.proofs.Words.{and-false, ℕ_discrete}
 use Rattle.base.proofs.SumLaws.{sum_same}
 use Rattle.base.proofs.Ranges.{sum_none, sum_next}
 use Rattle.base.specs.Sets.{mem}

@@ -1,7 +1,6 @@
 -- Laws of shares: to the nearest thousandth, an exact half to the even one, at most a thousand.
 use Rattle.std.proofs.Common.{◌≡◌, refl, sym, Bool, true, false, cond, ℕ, zero, suc, ◌+◌, ◌*◌, ◌/◌, ◌%◌, ◌≤◌, ◌<◌, arith, mod-lt, mul-le-mul_left, ltb, ltb-true, ltb-false, le-ltb}
-use native.Mathlib.Decide.{dec_lt}
-use native.Mathlib.Nat.{div-add-mod, lt_of_mul-lt-mul_left}
+use Rattle.base.proofs.Words.{dec_lt, div-add-mod, lt_of_mul-lt-mul_left}
 use Rattle.committee.specs.Shares.{even_neighbour, rounded, nearest, share_of, Near}
 
 even-near : (q r n : ℕ) → 2 * r ≡ n → (d : ℕ) → d < 2 → Near (n * q + r) n (q + d)
@@ -91,3 +90,6 @@ share-even w q n h e = half_even (1000 * w) q n h e
 pub share-only : (w n s : ℕ) → 0 < n → Near (1000 * w) n s → ((q : ℕ) → 2 * (1000 * w) ≡ 2 * (n * q) + n → s % 2 ≡ 0) → s ≡ share_of w n
 unfolding share_of
 share-only w n s h x e = nearest-only (1000 * w) n s h x e
+
+-- what a share is, and nothing else
+pub ruleset shares = (share-near, share-even, share-only, share_le)

@@ -1,11 +1,9 @@
 -- Laws of total weights: what a change, a fold and marked places raise them by.
 use Rattle.std.proofs.Common.{◌≡◌, refl, sym, Bool, true, false, cond, List, ℕ, zero, suc, ◌+◌, ◌*◌, ◌≤◌, ◌<◌, arith, add-one, set, length, eqb, ltb, eq-eqb}
-use native.Mathlib.Decide.{ℕ_discrete, dec_lt}
-use lib.Seq.{set_out}
-use lib.Dec.{eqb-zero-suc, eqb-suc-suc}
+use Rattle.base.proofs.Words.{ℕ_discrete, dec_lt, set_out, eqb-zero-suc, eqb-suc-suc}
 use Rattle.base.specs.Folds.{fold_to, sum_to}
 use Rattle.base.proofs.Ranges.{fold_none, fold_next, sum_next}
-use Rattle.base.proofs.SumLaws.{sum_same, sum_le, sum_add, sum_mono, sum_one, sum_to_none, sum_swap}
+use Rattle.base.proofs.SumLaws.{sum_at, sum_same, sum_le, sum_add, sum_mono, sum_one, sum_to_none, sum_swap}
 use Rattle.terms.specs.declared.Transaction.{Transaction}
 use Rattle.terms.specs.declared.Transaction.TheVariants.{Bond, Unbond, Entry}
 use Rattle.terms.specs.Transactions.{amount_of}
@@ -57,6 +55,10 @@ pub change_raises : (x : Transaction) → Raises (change x) (amount_of x)
 change_raises (Bond m a) = choice_raises (ltb m.0 16) (λ w. set w m.0 (weight (weight_in w m.0 + a))) (λ w. w) a (bond_raises m.0 a) (still_raises a)
 change_raises (Unbond m) = choice_raises (ltb m.0 16) (λ w. set w m.0 (weight 0)) (λ w. w) 0 (unbond_raises m.0 0) (still_raises 0)
 change_raises (Entry n) = still_raises 0
+
+-- a weight is a part of the total
+pub weight_le : (w : List Weight) (i : ℕ) → i < 16 → weight_in w i ≤ total_in w
+weight_le w i h = sum_at (weight_in w) 16 i h
 
 -- ---- raises
 

@@ -20,7 +20,7 @@ leader_by w r = unwrap_or (leader_of (weight_in w) r) 16
 
 -- what the block b, whose rows start with member a, does to the bonded committee of round s
 unfoldable pub step_from : Settings → ℕ → Block Content → ℕ → List Weight → List Weight
-step_from S s b a w = if nat_lt b.round s then changes_of (rows b a S.ceiling.0) w else w
+step_from S s b a w = if nat_lt b.round s then changes_of (rows b a S.ceiling) w else w
 
 -- the bonded committee of round s: the starting one changed by all blocks of rounds below s, in order; the rows of each start with the leader of its round
 unfoldable pub bonded_from : Settings → Chain Content → ℕ → List Weight
@@ -39,7 +39,7 @@ start_of S b c = leader_by (committee_of S c b.round) b.round
 
 -- the order inside a block: rounds rise, and within a round numbers rise from that of the leader of the block's round, with 0 after 15
 unfoldable pub ordered : Settings → Block Content → Chain Content → List Content
-ordered S b c = rows b (start_of S b c) S.ceiling.0
+ordered S b c = rows b (start_of S b c) S.ceiling
 
 -- the chain tells the committee of round r: the bonded one of r minus lookback is known
 unfoldable pub known_by : Settings → Chain Content → ℕ → Bool

@@ -45,7 +45,7 @@ bonding = record {
 unfoldable pub four : Settings
 four = record {
   lookback = blank.lookback;
-  ceiling = record { 0 = 6 };
+  ceiling = 6;
   allowance = blank.allowance;
   weights = blank.weights;
   margin = blank.margin;
@@ -67,7 +67,7 @@ full = record {
 unfoldable pub nobody : Settings
 nobody = record {
   lookback = blank.lookback;
-  ceiling = record { 0 = 6 };
+  ceiling = 6;
   allowance = blank.allowance;
   weights = tab (λ i. weight 0) 16;
   margin = blank.margin;

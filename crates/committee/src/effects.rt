@@ -3,7 +3,7 @@
 ghost use Rattle.std.specs.Prelude.{◌≡◌};
 ghost use Rattle.committee.specs.BondEffects.{shares_of, largest_to, bond_effect, TotalOf, Bonds};
 
-use crate::{shares, weighing};
+use crate::{change, shares};
 use terms::Member;
 use terms::sheet::Weight;
 
@@ -45,7 +45,7 @@ pub fn bond_effect(weights: [Weight; 16], total: Weight, member: Member, amount:
     let before = shares_of(&weights, total);
     let mut bonded = weights;
     // kind 0 is a bond, and it is there
-    weighing::change::apply(&mut bonded, true, 0, member.0, amount);
+    change::apply(&mut bonded, true, 0, member.0, amount);
     let after = shares_of(&bonded, Weight(total.0 + amount as u64));
     Effect {
         before,

@@ -20,6 +20,7 @@ ghost use Rattle.terms.specs.declared.sheet.Settings.{Settings};
 ghost use Rattle.terms.specs.declared.sheet.Weight.{Weight};
 
 /// Up to the lookback the committee of a round is the starting one, and above it the bonded one of the round that many rounds before.
+#[tactic(auto, using(crate::proofs::CommitteeLaws::by_lookback))]
 pub fn committee_by_lookback()
     ensures starting { (S : Settings) (c : Chain Content) (r : ℕ) → r ≤ S.lookback
         → committee_of S c r ≡ S.weights }
@@ -28,12 +29,14 @@ pub fn committee_by_lookback()
 {}
 
 /// The committee of a block's round is the one that the chain below the block tells: neither the block itself nor a later one changes it.
+#[tactic(auto, using(crate::proofs::Lawful::committee_below))]
 pub fn own_block_never_counts()
     ensures { (S : Settings) (b : Block Content) (c d : Chain Content) → (b ∷ c) ≼ d
         → committee_of S d b.round ≡ committee_of S c b.round }
 {}
 
 /// By any margin from 3 to 5 the fault bound is less than a third of a total that is not 0.
+#[tactic(auto, using(crate::proofs::CommitteeLaws::bounds))]
 pub fn bound_below_a_third()
     ensures { (d : ℕ) → MarginFits d → (n : ℕ) → 3 * bound_of d n ≤ n - 1 }
 {}
@@ -45,6 +48,7 @@ pub fn rules_are_lawful()
 {}
 
 /// In a block rounds rise, and within a round numbers rise from the first member on, with 0 after 15: certificates stand by rising keys, each once.
+#[tactic(auto, using(crate::proofs::OrderLaws::by_rising_keys))]
 pub fn ordered_by_keys()
     ensures { (b : Block Content) (a n : ℕ) → rows b a n ≡ by_keys b a (n * 16) }
 {}
@@ -54,10 +58,11 @@ pub fn ordered_by_keys()
 pub fn ordered_unled()
     ensures { (S : Settings) (b : Block Content) (c : Chain Content)
         → leader_of (weight_in (committee_of S c b.round)) b.round ≡ None
-        → ordered S b c ≡ rows b 0 S.ceiling.0 }
+        → ordered S b c ≡ rows b 0 S.ceiling }
 {}
 
 /// A share is nearest to the true one, twice the distance being at most one thousandth; at an exact half it is the even neighbour; no other number is both; it is at most 1,000; and that of a non-member is 0.
+#[tactic(auto, using(crate::proofs::ShareLaws::shares, crate::proofs::BondEffectLaws::unweighted))]
 pub fn shares_are_nearest()
     ensures near { (w n : ℕ) → 0 < n → Near (1000 * w) n (share_of w n) }
     ensures even { (w q n : ℕ) → 0 < n → 2 * (1000 * w) ≡ 2 * (n * q) + n → share_of w n % 2 ≡ 0 }
@@ -75,6 +80,7 @@ pub fn share_moves_at_most()
 {}
 
 /// A bond adds its amount to the total, and where the total was above 0, no share moves further than the bound.
+#[tactic(auto, using(crate::proofs::BondEffectLaws::after_bond, crate::proofs::BondEffectLaws::effect_le))]
 pub fn bond_moves_shares()
     ensures total { (w : List Weight) (m a : ℕ) → length w ≡ 16 → m < 16
         → total_in (bonded m a w) ≡ total_in w + a }

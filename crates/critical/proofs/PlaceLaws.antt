@@ -34,9 +34,9 @@ unfolding place_words
 words-length [] = refl
 words-length (x ∷ l) = omega (arith, words-length l)
 
-pub places-words : (s : State) (t : List ℕ) → place_words (critical_places s t) ≡ place_words (critical_in s t (s.round.0 - 1) 16) ++ place_words (critical_in s t s.round.0 16)
+pub places-words : (s : State) (t : List ℕ) → place_words (critical_places s t) ≡ place_words (critical_in s t (s.round - 1) 16) ++ place_words (critical_in s t s.round 16)
 unfolding critical_places
-places-words s t = words_append (critical_in s t (s.round.0 - 1) 16) (critical_in s t s.round.0 16)
+places-words s t = words_append (critical_in s t (s.round - 1) 16) (critical_in s t s.round 16)
 
 -- the two words of a place
 pub place_put : (t : List ℕ) (at q a : ℕ) → Puts t (set (set t at q) (at + 1) a) at (at + 2) (q ∷ a ∷ []) 2

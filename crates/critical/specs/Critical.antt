@@ -42,7 +42,7 @@ module _ (s : State) (t : List ℕ) where
 
   -- those of the present round and the one before: by round, then author
   unfoldable pub critical_places : List Place
-  critical_places = critical_in (s.round.0 - 1) 16 ++ critical_in s.round.0 16
+  critical_places = critical_in (s.round - 1) 16 ++ critical_in s.round 16
 
   -- 25 a list of so many words has fewer than 32 places, of two words each; then the checks of commit
   abbrev pub reading_critical : ℕ → Checks

@@ -4,12 +4,14 @@
 #![tactic(auto)]
 
 ghost use Rattle.std.specs.Prelude.{◌≡◌, ◌+◌, ◌≤◌, [], ◌∷◌, length, IfOk, not, ◌==◌};
+ghost use Rattle.std.proofs.lemmas.List.Edits.{sets};
 ghost use Rattle.base.specs.Puts.{Puts};
 ghost use Rattle.base.specs.Checks.{refusal};
 ghost use Rattle.refusals.specs.Refusals.{refusal_in};
 ghost use Rattle.store.specs.Table.{Within, mark_at};
-ghost use Rattle.critical.specs.Critical.{place_words, refusal_without, is_critical, critical_at, critical_in, critical_places, critical_refusal, critical_list, late_checks};
-ghost use Rattle.critical.specs.Answers.{InTime, Polls, MayLack, Weighs, Near, InView, Free};
+ghost use Rattle.votes.specs.Ready.{AnchorLed};
+ghost use Rattle.critical.specs.Critical.{place_words, refusal_without, is_critical, critical_in, critical_places, critical_refusal, critical_list, late_checks};
+ghost use Rattle.critical.specs.Answers.{InTime, Passes, Polls, MayLack, Weighs, Near, InView, Free};
 
 use committee::committees::Committee;
 use member_view::View;
@@ -18,7 +20,7 @@ use state::State;
 use store::writes;
 use terms::sheet::Weight;
 use terms::{Member, Round};
-use votes::checks;
+use votes::{checks, counting};
 
 /// What a commit goes by after the checks of time: what those of the votes answer; the leader of the round before, 16 for none; and the committee of the present round.
 #[derive(Debug, Clone, Copy)]
@@ -28,13 +30,32 @@ pub(crate) struct Polled {
     pub committee: Committee,
 }
 
-/// What an accepted commit is weighed by: the leader of the round before, and of the present round the committee, its fault bound and the votes.
+/// What an accepted commit is weighed by.
 #[derive(Debug, Clone, Copy)]
 pub struct Weighed {
+    /// The leader of the round before the present one.
     pub leader: Member,
-    pub weights: [Weight; 16],
-    pub bound: Weight,
+    /// The committee of the present round.
+    pub committee: Committee,
+    /// The weight of the present round's votes for the leader's certificate.
     pub votes: Weight,
+}
+
+impl Weighed {
+    /// What the commit of a state that passes its checks is weighed by, where `leader` is the leader of the round before and `committee` that of the present one.
+    #[tactic(auto, using(crate::proofs::LackLaws::votes_ready))]
+    pub fn new(state: &State, table: &[u32], leader: Member, committee: Committee) -> Weighed
+        requires passes { Passes state.now table.now }
+        requires anchor { AnchorLed state.now table.now leader.0 committee }
+        ensures { Weighs state.now table.now result }
+    {
+        let votes = counting::votes_for(table, &committee.weights, state.round, leader);
+        Weighed {
+            leader,
+            committee,
+            votes,
+        }
+    }
 }
 
 // Checks 21, 22, and what they go by. The leaders are worked out here and nowhere else, so that their memory is in use once at a time.
@@ -45,9 +66,10 @@ fn poll(state: &State, table: &[u32]) -> Polled
     let mut leaders = [16u32; 1025];
     let committee = checks::fill_leaders(state, table, &mut leaders);
     let answer = checks::check_votes(state, table, &leaders, &committee);
+    let round = state.round;
     Polled {
         answer,
-        leader: Member(leaders[state.round.0 as usize - 1]),
+        leader: Member(leaders[round.0 as usize - 1]),
         committee,
     }
 }
@@ -59,8 +81,8 @@ fn answer_without(
     author: Member,
     round: Round,
 ) -> Result<(), Refusal>
-    requires { MayLack state.now table.old author.0 round.0 }
-    ensures { (refusal_in result ≡ refusal_without state.now table.old author.0 round.0)
+    requires { MayLack state.now table.old author.0 round }
+    ensures { (refusal_in result ≡ refusal_without state.now table.old author.0 round)
         × (table.new ≡ table.old) }
 {
     let held = store::held_set(table, round);
@@ -74,12 +96,14 @@ fn answer_without(
 // Of a certificate that is held and in no block: is it the anchor, or a vote without which the others weigh not more than the bound? One that is no vote adds nothing to them.
 fn is_pivotal(state: &State, table: &[u32], weighed: &Weighed, author: Member, round: Round) -> bool
     requires { Weighs state.now table.now weighed.now
-        × (InView state.now author.0 round.0 × Free table.now author.0 round.0) }
-    ensures { result ≡ is_critical state.now table.now author.0 round.0 }
+        × (InView state.now author.0 round × Free table.now author.0 round) }
+    ensures { result ≡ is_critical state.now table.now author.0 round }
 {
-    if round.0 == state.round.0 {
-        let vote = votes::counting::vote_of(table, &weighed.weights, round, weighed.leader, author);
-        weighed.votes.0 - vote.0 <= weighed.bound.0
+    let now = state.round;
+    if round.0 == now.0 {
+        let committee = &weighed.committee;
+        let vote = counting::vote_of(table, &committee.weights, round, weighed.leader, author);
+        weighed.votes.0 - vote.0 <= committee.bound().0
     } else {
         author.0 == weighed.leader.0
     }
@@ -87,13 +111,14 @@ fn is_pivotal(state: &State, table: &[u32], weighed: &Weighed, author: Member, r
 
 // Is the certificate of a place in a block?
 fn is_in_block(table: &[u32], author: Member, round: Round) -> bool
-    requires { Within table.now author.0 round.0 }
-    ensures { result ≡ not (mark_at table.now author.0 round.0 == 0) }
+    requires { Within table.now author.0 round }
+    ensures { result ≡ not (mark_at table.now author.0 round == 0) }
 {
     store::record::mark(table, author, round) != 0
 }
 
 // Does the commit hang on the certificate of a place?
+#[tactic(auto, using(crate::proofs::LackLaws::place, crate::proofs::LackLaws::may, crate::proofs::LackLaws::absent_critical, crate::proofs::LackLaws::held_critical, crate::proofs::AnswerLaws::err_number))]
 fn is_critical(
     state: &State,
     table: &mut [u32],
@@ -101,9 +126,10 @@ fn is_critical(
     author: Member,
     round: Round,
 ) -> bool
-    requires { Weighs state.now table.old weighed.now × InView state.now author.0 round.0 }
-    ensures { (result ≡ is_critical state.now table.old author.0 round.0)
-        × (table.new ≡ table.old) }
+    requires weighs { Weighs state.now table.old weighed.now }
+    requires place { InView state.now author.0 round }
+    ensures critical { result ≡ is_critical state.now table.old author.0 round }
+    ensures table { table.new ≡ table.old }
 {
     if !store::held(table, author, round) {
         return false;
@@ -119,38 +145,14 @@ fn is_critical(
 #[tactic(auto, using(crate::proofs::PlaceLaws::place_put))]
 fn put_place(list: &mut [u32], at: usize, author: Member, round: Round) -> usize
     requires { at + 2 ≤ length list.old }
-    ensures { Puts list.old list.new at result (round.0 ∷ author.0 ∷ []) 2 }
+    ensures { Puts list.old list.new at result (round ∷ author.0 ∷ []) 2 }
 {
     list[at] = round.0;
     list[at + 1] = author.0;
     at + 2
 }
 
-// That of `author` and `round`, if the commit hangs on it.
-#[tactic(auto, using(crate::proofs::PlaceLaws::place_there, crate::proofs::PlaceLaws::place_none))]
-fn list_place(
-    state: &State,
-    table: &mut [u32],
-    weighed: &Weighed,
-    author: Member,
-    round: Round,
-    list: &mut [u32],
-    at: usize,
-) -> usize
-    requires { Weighs state.now table.old weighed.now
-        × (InView state.now author.0 round.0 × (at + 2 ≤ length list.old)) }
-    ensures { (table.new ≡ table.old)
-        × Puts list.old list.new at result
-        (place_words (critical_at state.now table.old author.0 round.0)) 2 }
-{
-    if is_critical(state, table, weighed, author, round) {
-        put_place(list, at, author, round)
-    } else {
-        at
-    }
-}
-
-// Those of `round`.
+// Those of `round` that the commit hangs on.
 fn list_row(
     state: &State,
     table: &mut [u32],
@@ -160,42 +162,32 @@ fn list_row(
     at: usize,
 ) -> usize
     requires { Weighs state.now table.old weighed.now
-        × (Near state.now round.0 × (at + 32 ≤ length list.old)) }
+        × (Near state.now round × (at + 32 ≤ length list.old)) }
     ensures { (table.new ≡ table.old)
         × Puts list.old list.new at result
-        (place_words (critical_in state.now table.old round.0 16)) 32 }
+        (place_words (critical_in state.now table.old round 16)) 32 }
 {
     let mut to = at;
     for i in 0..16u32 {
-        to = list_place(state, table, weighed, Member(i), round, list, to);
+        if is_critical(state, table, weighed, Member(i), round) {
+            to = put_place(list, to, Member(i), round);
+        }
     }
     to
 }
 
-/// Lists the places of both rounds whose certificates the commit hangs on, the round before first; the words that they take.
-pub fn list_places(state: &State, table: &mut [u32], weighed: &Weighed, list: &mut [u32]) -> usize
+/// Lists the places of both rounds whose certificates the commit hangs on, the round before first; their number.
+pub fn list_places(state: &State, table: &mut [u32], weighed: &Weighed, list: &mut [u32]) -> u32
     requires { Weighs state.now table.old weighed.now × (64 ≤ length list.old) }
-    ensures { (table.new ≡ table.old)
-        × Puts list.old list.new 0 result (place_words (critical_places state.now table.old)) 64 }
+    ensures number { result ≡ length (critical_places state.now table.old) }
+    ensures table { table.new ≡ table.old }
+    ensures list { list.new ≡ sets list.old 0 (place_words (critical_places state.now table.old)) }
 {
-    let before = Round(state.round.0 - 1);
+    let round = state.round;
+    let before = Round(round.0 - 1);
     let row = list_row(state, table, weighed, before, list, 0);
-    list_row(state, table, weighed, state.round, list, row)
-}
-
-// What the commit of a state that passes its checks is weighed by.
-fn weigh_up(state: &State, table: &[u32], polled: Polled) -> Weighed
-    requires { InTime state.now table.now
-        × (Polls state.now table.now polled × (refusal_in polled.answer ≡ 0)) }
-    ensures { Weighs state.now table.now result }
-{
-    let weights = polled.committee.weights;
-    Weighed {
-        leader: polled.leader,
-        weights,
-        bound: polled.committee.bound(),
-        votes: votes::counting::votes_for(table, &weights, state.round, polled.leader),
-    }
+    let put = list_row(state, table, weighed, round, list, row);
+    (put / 2) as u32
 }
 
 // The checks of a well-formed state before the votes: 25, 19, 20, 8; the list has so many words.
@@ -226,7 +218,6 @@ pub fn critical(state: &State, table: &mut [u32], list: &mut [u32]) -> Result<u3
     checks::check_early(&view)?;
     let polled = poll(state, table);
     polled.answer?;
-    let weighed = weigh_up(state, table, polled);
-    let put = list_places(state, table, &weighed, list);
-    Ok((put / 2) as u32)
+    let weighed = Weighed::new(state, table, polled.leader, polled.committee);
+    Ok(list_places(state, table, &weighed, list))
 }

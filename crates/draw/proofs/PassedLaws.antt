@@ -12,7 +12,7 @@ module _ (s : State) (t : List ℕ) where
   pub record DrawPassed (v : ℕ) : Type 0 where
     pub formed : Formed s t
     pub row : Row t 0
-    pub fits : BodyFits s.settings.allowance s.round.0 (drawn_body s t v)
+    pub fits : BodyFits s.settings.allowance s.round (drawn_body s t v)
 
   pub draw-passed : (v : ℕ) → draw_refusal s t v ≡ 0 → DrawPassed v
   unfolding draw_refusal

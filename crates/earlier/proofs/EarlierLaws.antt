@@ -1,6 +1,6 @@
 -- Members refuse more than before an advance asked for a quorum, and runs of now were allowed then.
 use Rattle.std.proofs.Common.{◌≡◌, refl, ◌∙◌, subst, Bool, true, false, [], ◌∷◌, ◌⊎◌, ℕ}
-use mathlib.Core.Path.{fun_ext}
+use Rattle.base.proofs.Words.{fun_ext}
 use Rattle.base.specs.Checks.{refusal}
 use Rattle.base.proofs.CheckLaws.{numbered, passes, passes-all}
 use Rattle.base.proofs.Passed.{passed}

@@ -1,7 +1,6 @@
 -- Of two ways in which engines answer one refuses more: its runs, their refused calls left out, are runs of the other.
 use Rattle.std.proofs.Common.{◌≡◌, refl, sym, ap, ◌∙◌, subst, Bool, true, false, cond, List, [], ◌∷◌, inl, inr, ◌≢◌, ℕ, ◌≤◌, eqb, eqb-true}
-use mathlib.Core.Path.{fun_ext}
-use borrow.Author.Tests.{eqb-false}
+use Rattle.base.proofs.Words.{fun_ext, eqb-false}
 use Rattle.agreement.specs.Weights.{weigh, total, outside}
 use Rattle.agreement.specs.Entries.{states}
 use Rattle.terms.specs.Proposals.{Content}

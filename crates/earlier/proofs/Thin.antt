@@ -1,7 +1,6 @@
 -- An engine that has just opened holds nothing: its advance passed earlier, and is refused with 28 now.
 use Rattle.std.proofs.Common.{◌≡◌, refl, sym, ◌∙◌, subst, false, [], ℕ, ◌+◌, ◌<◌, arith, leb, ltb, le-leb, lt-ltb, ltb-true}
-use mathlib.Core.Bool.{or-true}
-use borrow.Author.Tests.{not-false, lt-leb}
+use Rattle.base.proofs.Words.{or-true, not-false, lt-leb}
 use Rattle.base.specs.Checks.{refusal}
 use Rattle.base.specs.Folds.{any_to, sum_to}
 use Rattle.base.proofs.Bools.{cond_same}
@@ -60,10 +59,10 @@ module _ (S : Settings) (fits : SettingsFit S) (some : weightless S ≡ false) w
   starting = cond_same (leb 1 S.lookback) S.weights
 
   now-refused : refusal (advancing S (fresh_view S)) ≡ 28
-  now-refused = passes 18 _ (lt-leb S.ceiling.0 1 (omega (arith, fits.ceiling_from))) ∙ passes 8 _ is_known ∙ refuses 28 _ (rw (starting, nobody (margin_fits fits) (weight_in S.weights) weighs) refl)
+  now-refused = passes 18 _ (lt-leb S.ceiling 1 (omega (arith, fits.ceiling_from))) ∙ passes 8 _ is_known ∙ refuses 28 _ (rw (starting, nobody (margin_fits fits) (weight_in S.weights) weighs) refl)
 
   then-passed : refusal (earlier_advancing S (fresh_view S)) ≡ 0
-  then-passed = passes 18 _ (lt-leb S.ceiling.0 1 (omega (arith, fits.ceiling_from))) ∙ passes-all
+  then-passed = passes 18 _ (lt-leb S.ceiling 1 (omega (arith, fits.ceiling_from))) ∙ passes-all
 
 module _ (x : Opening) where
   abbrev engine : Engine

@@ -14,7 +14,7 @@ use Rattle.earlier.specs.Refusing.{RefusesMore}
 
 -- 18 at the ceiling
 abbrev pub earlier_advancing : (S : Settings) → MemberView S → Checks
-earlier_advancing S s = (nat_le S.ceiling.0 s.round, 18) ∷ []
+earlier_advancing S s = (nat_le S.ceiling s.round, 18) ∷ []
 
 -- x for an advance, y for any other call
 abbrev pub of_advance : {A : Type 0} → A → A → Call → A

@@ -24,8 +24,8 @@ module _ (s : State) (t : List ℕ) where
       let n = refusal-passed s t (rules.endorse (content_of p)) e in
       passed _ refl n.1 λ h4 h5 h6 h7 h14 h10 h8 h11 h12.
       let a = ltb-false 15 p.author.0 h4 in
-      let r = round-fits s.settings p.round.0 h5 in
+      let r = round-fits s.settings p.round h5 in
       record {
         formed = formed s t n.0;
-        fits = record { author = omega arith; from = r.0; to = r.1; body = body-fits s.settings.allowance p.round.0 p.body h6 h7 };
+        fits = record { author = omega arith; from = r.0; to = r.1; body = body-fits s.settings.allowance p.round p.body h6 h7 };
       }

@@ -13,4 +13,4 @@ module _ (s : State) (t : List ℕ) where
   endorse_refusal p = refusal_of s t (rules.endorse (content_of p))
 
   unfoldable pub endorse_table : Proposal → List ℕ
-  endorse_table p = if_accepted (endorse_refusal p) (set_endorsed t p.author.0 p.round.0) t
+  endorse_table p = if_accepted (endorse_refusal p) (set_endorsed t p.author.0 p.round) t

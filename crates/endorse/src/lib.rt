@@ -28,7 +28,7 @@ fn check(view: &View, proposal: Proposal) -> Result<(), Refusal>
     ensures fits { OnOk result (FormFits view.now.state.now proposal) }
 {
     view.check_form(proposal)?;
-    if proposal.author.0 == view.state.own.0 {
+    if proposal.author == view.state.own {
         return Err(Refusal::SignedTwice);
     }
     if view.is_taken(proposal.author, proposal.round) {

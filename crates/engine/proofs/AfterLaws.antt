@@ -24,14 +24,14 @@ use Rattle.engine.specs.Engine.{Engine, refusal_for, after}
 
 -- what an accepted call leaves
 abbrev pub renewed : Engine → Call → Engine
-renewed e (opens own sheet) = record { state = fresh_state own (filled sheet) sheet.rights; table = clear_used e.table (filled sheet).ceiling.0 }
+renewed e (opens own sheet) = record { state = fresh_state own (filled sheet) sheet.rights; table = clear_used e.table (filled sheet).ceiling }
 renewed e (propose b) = record { state = proposed e.state b; table = e.table }
-renewed e (endorse p) = record { state = e.state; table = set_endorsed e.table p.author.0 p.round.0 }
-renewed e (certify d) = record { state = e.state; table = put_certificate e.table (content_with e.state.own.0 e.state.round.0 (own_body e.state)) d }
+renewed e (endorse p) = record { state = e.state; table = set_endorsed e.table p.author.0 p.round }
+renewed e (certify d) = record { state = e.state; table = put_certificate e.table (content_with e.state.own.0 e.state.round (own_body e.state)) d }
 renewed e (accept c) =
     record {
       state = e.state;
-      table = clear_endorsed (put_certificate e.table (content_of c.proposal) c.endorsers) c.proposal.author.0 c.proposal.round.0;
+      table = clear_endorsed (put_certificate e.table (content_of c.proposal) c.endorsers) c.proposal.author.0 c.proposal.round;
     }
 renewed e advance = record { state = advanced e.state; table = e.table }
 renewed e commit = record { state = committed_state e.state e.table; table = committed_table e.state e.table }

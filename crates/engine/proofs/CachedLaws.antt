@@ -1,6 +1,6 @@
 -- What is cached beside an engine's state after a call: whether the state is well formed, as the answer tells it, and the committees, where the call leaves settings and chain.
 use Rattle.std.proofs.Common.{◌≡◌, refl, sym, ap, ◌∙◌, subst₂, Bool, true, false, List, ◌≢◌, ℕ, arith, Option, Some, None}
-use mathlib.Core.Bool.{false≢true}
+use Rattle.base.proofs.Words.{false≢true}
 use Rattle.agreement.specs.Rules.{Chain}
 use Rattle.terms.specs.Proposals.{Content}
 use Rattle.terms.specs.declared.sheet.Settings.{Settings}

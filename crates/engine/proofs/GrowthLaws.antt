@@ -44,7 +44,7 @@ module _ (S : Settings) (k : ℕ) (s : MemberView S) where
 
 -- the chain of an engine
 abbrev pub chain_in : Engine → Chain Content
-chain_in e = chain_of e.state.settings.ceiling.0 e.table e.state.blocks
+chain_in e = chain_of e.state.settings.ceiling e.table e.state.blocks
 
 pub chain-newer : (e : Engine) → SetInRange e → (c : Call) → InRange c → NoOpen e c → Newer (chain_in e) (chain_in (after e c))
 chain-newer e low c i o = go (every_step e low c i)

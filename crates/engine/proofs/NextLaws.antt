@@ -59,10 +59,10 @@ module _ (e : Engine) where
         its_own = refl;
         its_settings = refl;
         its_rights = refl;
-        formed = whole _ _ (open_formed own (filled sheet) sheet.rights table k.member k.is_in_range k.weighty k.long) (ports-clear (filled sheet) (clear_used table (filled sheet).ceiling.0) 0 (cleared-words table (filled sheet).ceiling.0));
+        formed = whole _ _ (open_formed own (filled sheet) sheet.rights table k.member k.is_in_range k.weighty k.long) (ports-clear (filled sheet) (clear_used table (filled sheet).ceiling) 0 (cleared-words table (filled sheet).ceiling));
         shows = view_open own (filled sheet) sheet.rights table;
         set_in_range = omega arith;
-        beyond = cleared-beyond table (filled sheet).ceiling.0;
+        beyond = cleared-beyond table (filled sheet).ceiling;
       }
 
   pub propose-next : (b : Body) → b.previous < 65536 → refusal_for e (propose b) ≡ 0 → AsRuled e (propose b) (renewed e (propose b))
@@ -90,7 +90,7 @@ module _ (e : Engine) where
         formed = whole _ _ (first-kept (proposed state b) table (propose-kept state table k.formed b k.fits) o (fits-drawn state.settings.allowance table k.row k.formed.queues)) (ports-fit e (draw v) refl a (draw-whole e v a));
         shows = view-only (proposed state b) o ∙ view-propose state table b ∙ sym (after-propose state.settings state.own.0 (view state table) b.previous (transactions_of b));
         set_in_range = drawn-small state table v r;
-        beyond = only-beyond o state.settings.ceiling.0;
+        beyond = only-beyond o state.settings.ceiling;
       }
 
   -- of calls that leave the state: the previous set in it stays in range
@@ -102,16 +102,16 @@ module _ (e : Engine) where
           same_own = refl;
           same_settings = refl;
           same_rights = refl;
-          formed = whole _ _ (endorse-kept state table k.formed p.author.0 p.round.0 k.fits.author k.fits.from k.fits.to) (ports-fit e (endorse p) refl a (endorse-whole e p a));
+          formed = whole _ _ (endorse-kept state table k.formed p.author.0 p.round k.fits.author k.fits.from k.fits.to) (ports-fit e (endorse p) refl a (endorse-whole e p a));
           shows = view-endorse state table (content_of p) k.formed.long (placed state table p k.formed k.fits r) ∙ sym (after-endorse state.settings state.own.0 (view state table) (content_of p));
           set_in_range = low;
-          beyond = endorse-beyond (set-endorsed table p.author.0 p.round.0) state.settings.ceiling.0 k.fits.to;
+          beyond = endorse-beyond (set-endorsed table p.author.0 p.round) state.settings.ceiling k.fits.to;
         }
 
     pub certify-next : (d : ℕ) → d < 65536 → refusal_for e (certify d) ≡ 0 → AsRuled e (certify d) (renewed e (certify d))
     certify-next d r a =
         let k = certify-passed state table d a in
-        let p = content_with state.own.0 state.round.0 (own_body state) in
+        let p = content_with state.own.0 state.round (own_body state) in
         let b = k.formed.proposal k.proposing in
         let place = own-placed state table k.formed k.proposing low in
         record {
@@ -121,7 +121,7 @@ module _ (e : Engine) where
           formed = whole _ _ (put-kept state table k.formed p d r k.not_among place b.fit b.right) (ports-fit e (certify d) refl a (certify-whole e d a));
           shows = view-certify state table p k.formed.long place d k.free ∙ sym (after-certify state.settings state.own.0 (view state table) d p (proposal-some state k.proposing));
           set_in_range = low;
-          beyond = put-beyond table p d (own-within state table k.formed) state.settings.ceiling.0 k.formed.numbers.round_to;
+          beyond = put-beyond table p d (own-within state table k.formed) state.settings.ceiling k.formed.numbers.round_to;
         }
 
     pub accept-next : (c : Certificate) → InRange (accept c) → refusal_for e (accept c) ≡ 0 → AsRuled e (accept c) (renewed e (accept c))
@@ -136,11 +136,11 @@ module _ (e : Engine) where
           same_own = refl;
           same_settings = refl;
           same_rights = refl;
-          formed = whole _ _ (clear_kept state held g p.author.0 p.round.0 f.author f.from f.to) (ports-fit e (accept c) refl a (accept-whole e c a));
+          formed = whole _ _ (clear_kept state held g p.author.0 p.round f.author f.from f.to) (ports-fit e (accept c) refl a (accept-whole e c a));
           shows = view-accept state table (content_of p) k.formed.long place c.endorsers k.free ∙ sym (after-accept state.settings state.own.0 (view state table) (content_of p) c.endorsers);
           set_in_range = low;
-          beyond = endorse-beyond (clear-endorsed held p.author.0 p.round.0) state.settings.ceiling.0 f.to
-              ∙ put-beyond table (content_of p) c.endorsers (fits-within state table p k.formed f) state.settings.ceiling.0 f.to;
+          beyond = endorse-beyond (clear-endorsed held p.author.0 p.round) state.settings.ceiling f.to
+              ∙ put-beyond table (content_of p) c.endorsers (fits-within state table p k.formed f) state.settings.ceiling f.to;
         }
 
     pub advance-next : refusal_for e advance ≡ 0 → AsRuled e advance (renewed e advance)
@@ -179,7 +179,7 @@ module _ (e : Engine) where
           formed = whole _ _ (first-kept state table k.formed o (fits-added table g x k.place k.formed.queues k.is_in_range)) (ports-fit e (enqueue g x) refl a (enqueue-whole e g x a));
           shows = view-only state o ∙ sym (after_read state.settings state.own.0 (view state table));
           set_in_range = low;
-          beyond = only-beyond o state.settings.ceiling.0;
+          beyond = only-beyond o state.settings.ceiling;
         }
 
     pub port-next : (x : PortCall) → PortInRange x → refusal_for e (port x) ≡ 0 → AsRuled e (port x) (renewed e (port x))
@@ -194,7 +194,7 @@ module _ (e : Engine) where
           formed = whole _ _ (first-kept state table f o (fits_kept table _ (queues_ported state table x k) ∙ f.queues)) (ports_ported state table x k r);
           shows = view-only state o ∙ sym (after_read state.settings state.own.0 (view state table));
           set_in_range = low;
-          beyond = only-beyond o state.settings.ceiling.0;
+          beyond = only-beyond o state.settings.ceiling;
         }
 
     pub aside-next : (x : Aside) → well_formed state table ≡ true → AsRuled e (aside x) e

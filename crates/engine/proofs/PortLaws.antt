@@ -1,6 +1,6 @@
 -- Every accepted call but an open and those of ports leaves the words of ports, and the lines of certificates in blocks.
 use Rattle.std.proofs.Common.{◌≡◌, Bool, true, false, ℕ}
-use mathlib.Core.Bool.{false≢true}
+use Rattle.base.proofs.Words.{false≢true}
 use Rattle.terms.specs.Proposals.{content_with, content_of}
 use Rattle.store.specs.Writes.{put_certificate}
 use Rattle.store.proofs.EndorseLaws.{set-endorsed, clear-endorsed}
@@ -34,16 +34,16 @@ module _ (e : Engine) where
   open e use {state, table}
 
   abbrev n : ℕ
-  n = state.settings.ceiling.0
+  n = state.settings.ceiling
 
   pub ports-left : (c : Call) → leaves_ports c ≡ true → refusal_for e c ≡ 0 → PortsKept table (renewed e c).table n state.blocks (renewed e c).state.blocks
   ports-left (opens own sheet) h a = absurd (false≢true h)
   ports-left (endorse p) h a =
       let k = endorse-passed state table p a in
-      endorse-ports n state.blocks (set-endorsed table p.author.0 p.round.0) (set-endorsed-first table p.author.0 p.round.0 k.fits.from)
+      endorse-ports n state.blocks (set-endorsed table p.author.0 p.round) (set-endorsed-first table p.author.0 p.round k.fits.from)
   ports-left (certify d) h a =
       let k = certify-passed state table d a in
-      let p = content_with state.own.0 state.round.0 (own_body state) in
+      let p = content_with state.own.0 state.round (own_body state) in
       let w = own-within state table k.formed in
       put-ports table p d w k.free n state.blocks (put_first table p d w k.formed.numbers.round_from)
   ports-left (accept c) h a =
@@ -54,7 +54,7 @@ module _ (e : Engine) where
       let held = put_certificate table (content_of p) c.endorsers in
       kept_then
       (put-ports table (content_of p) c.endorsers w k.free n state.blocks (put_first table (content_of p) c.endorsers w f.from))
-      (endorse-ports n state.blocks (clear-endorsed held p.author.0 p.round.0) (clear-endorsed-first held p.author.0 p.round.0 f.from))
+      (endorse-ports n state.blocks (clear-endorsed held p.author.0 p.round) (clear-endorsed-first held p.author.0 p.round f.from))
   ports-left commit h a = ports-commit state table a
   ports-left (enqueue g x) h a =
       let k = enqueue-passed state table g x a in

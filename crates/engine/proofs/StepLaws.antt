@@ -1,6 +1,6 @@
 -- Every call is refused and changes no word, or is an accepted open, or does what the rules say.
 use Rattle.std.proofs.Common.{◌≡◌, refl, sym, subst, true}
-use native.Mathlib.Decide.{ℕ_discrete}
+use Rattle.base.proofs.Words.{ℕ_discrete}
 use Rattle.state.specs.WellFormed.{well_formed}
 use Rattle.engine.specs.Calls.{Call, opens, propose, endorse, certify, accept, advance, commit, enqueue, draw, port, aside, InRange}
 use Rattle.engine.specs.Engine.{Engine, refusal_for, aside_checks}

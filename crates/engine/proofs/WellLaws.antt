@@ -1,6 +1,6 @@
 -- The state of an accepted call is well formed: check 1 has let it pass.
 use Rattle.std.proofs.Common.{◌≡◌, true, not, ℕ, arith}
-use borrow.Author.Tests.{not-false}
+use Rattle.base.proofs.Words.{not-false}
 use Rattle.base.specs.Checks.{Checks, refusal}
 use Rattle.base.proofs.CheckLaws.{cleared}
 use Rattle.terms.specs.declared.Body.{Body}

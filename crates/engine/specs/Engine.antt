@@ -28,11 +28,11 @@ pub record Engine : Type 0 where
 
 -- the checks of a call that leaves state and table, after check 1
 abbrev pub aside_checks : Engine → Aside → Checks
-aside_checks e (committee r) = reading_committee e.state.settings (view e.state e.table) r.0
-aside_checks e (share m r) = reading_share e.state.settings (view e.state e.table) m.0 r.0
-aside_checks e (effect m r a) = reading_effect e.state.settings (view e.state e.table) m.0 r.0 a
+aside_checks e (committee r) = reading_committee e.state.settings (view e.state e.table) r
+aside_checks e (share m r) = reading_share e.state.settings (view e.state e.table) m.0 r
+aside_checks e (effect m r a) = reading_effect e.state.settings (view e.state e.table) m.0 r a
 aside_checks e (certificate m r) =
-    reading_certificate e.state.settings (view e.state e.table) m.0 r.0
+    reading_certificate e.state.settings (view e.state e.table) m.0 r
 aside_checks e (block n) = reading_block e.state.settings (view e.state e.table) n
 aside_checks e (preview n) = previewing e.state e.table n
 aside_checks e (critical n) = reading_critical e.state e.table n

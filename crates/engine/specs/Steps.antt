@@ -21,11 +21,11 @@ use Rattle.state.specs.States.{own_body}
 abbrev pub view_at : (S : Settings) → Engine → MemberView S
 view_at S e =
     record {
-      round = e.state.round.0;
+      round = e.state.round;
       proposal = own_proposal e.state;
-      dag = dag_of e.state.settings.ceiling.0 e.table;
-      endorsed = endorsed_of e.state.settings.ceiling.0 e.table;
-      chain = chain_of e.state.settings.ceiling.0 e.table e.state.blocks;
+      dag = dag_of e.state.settings.ceiling e.table;
+      endorsed = endorsed_of e.state.settings.ceiling e.table;
+      chain = chain_of e.state.settings.ceiling e.table e.state.blocks;
     }
 
 -- a propose of a body
@@ -49,7 +49,7 @@ SetInRange e = (own_body e.state).previous < 65536
 
 -- nothing beyond the part of the table that a state with settings S uses has changed
 abbrev pub BeyondSame : Settings → Engine → Engine → Type 0
-BeyondSame S e x = drop (used_length S.ceiling.0) x.table ≡ drop (used_length S.ceiling.0) e.table
+BeyondSame S e x = drop (used_length S.ceiling) x.table ≡ drop (used_length S.ceiling) e.table
 
 -- x is what an accepted open on e leaves: a well-formed state of round 1 and nothing else
 pub record FreshlyOpened (own : Member) (sheet : Sheet) (e x : Engine) : Type 0 where

@@ -41,13 +41,13 @@ pub data Value : Type 0 where
 
 -- of a call that leaves state and table
 abbrev pub aside_value : Engine → Aside → Value
-aside_value e (committee r) = weights (committee_read e.state.settings (view e.state e.table) r.0)
-aside_value e (share m r) = number (share_read e.state.settings (view e.state e.table) m.0 r.0)
+aside_value e (committee r) = weights (committee_read e.state.settings (view e.state e.table) r)
+aside_value e (share m r) = number (share_read e.state.settings (view e.state e.table) m.0 r)
 aside_value e (effect m r a) =
-    shares (effect_read e.state.settings (view e.state e.table) m.0 r.0 a)
+    shares (effect_read e.state.settings (view e.state e.table) m.0 r a)
 aside_value e (certificate m r) =
-    held (reads.proposal_shown ((view e.state e.table).dag m.0 r.0)) (endorsers_at e.table m.0 r.0)
-    (block_number (view e.state e.table).chain m.0 r.0)
+    held (reads.proposal_shown ((view e.state e.table).dag m.0 r)) (endorsers_at e.table m.0 r)
+    (block_number (view e.state e.table).chain m.0 r)
 aside_value e (block n) = number (block_read e.state.settings (view e.state e.table) n)
 aside_value e (preview n) = entries (preview_entries e.state e.table)
 aside_value e (critical n) = places (critical_places e.state e.table)

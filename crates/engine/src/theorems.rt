@@ -68,12 +68,12 @@ pub fn reached_formed()
 pub fn blocks_stay()
     ensures grown { (e : Engine) → Reached e → (l : List Call) → AllInRange l → NoOpens e l
         → let d = after_calls e l in
-        (newer : Chain Content) × (chain_of d.state.settings.ceiling.0 d.table d.state.blocks
-        ≡ newer ++ chain_of e.state.settings.ceiling.0 e.table e.state.blocks) }
+        (newer : Chain Content) × (chain_of d.state.settings.ceiling d.table d.state.blocks
+        ≡ newer ++ chain_of e.state.settings.ceiling e.table e.state.blocks) }
     ensures kept { (e : Engine) → Reached e → (l : List Call) → AllInRange l → NoOpens e l
         → let d = after_calls e l in (n : ℕ) (b : Block Content)
-        → block_numbered (chain_of e.state.settings.ceiling.0 e.table e.state.blocks) n ≡ Some b
-        → block_numbered (chain_of d.state.settings.ceiling.0 d.table d.state.blocks) n
+        → block_numbered (chain_of e.state.settings.ceiling e.table e.state.blocks) n ≡ Some b
+        → block_numbered (chain_of d.state.settings.ceiling d.table d.state.blocks) n
         ≡ Some b }
 {}
 

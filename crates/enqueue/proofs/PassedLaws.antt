@@ -1,6 +1,6 @@
 -- What an accepted enqueue has passed; one of a guest above 7 is refused.
 use Rattle.std.proofs.Common.{◌≡◌, refl, ◌∙◌, true, not, List, ℕ, ◌<◌, arith, length, ltb, ltb-false, leb-false}
-use borrow.Author.Tests.{not-false}
+use Rattle.base.proofs.Words.{not-false}
 use Rattle.base.proofs.CheckLaws.{numbered, cleared, passes, refuses}
 use Rattle.base.proofs.Passed.{passed}
 use Rattle.terms.specs.declared.Transaction.{Transaction}

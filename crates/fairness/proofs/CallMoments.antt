@@ -1,6 +1,6 @@
 -- The moments of a call follow one another, after what was waiting before it.
 use Rattle.std.proofs.Common.{◌≡◌, refl, sym, ap, List, [], ◌∷◌, ◌++◌, ℕ, None}
-use native.Mathlib.Decide.{ℕ_discrete}
+use Rattle.base.proofs.Words.{ℕ_discrete}
 use Rattle.state.proofs.AnswerLaws.{if_accepted-new, if_accepted-old}
 use Rattle.state.specs.Answers.{if_accepted}
 use Rattle.queues.specs.Queues.{Queues, added, empty_queues, after_draws}

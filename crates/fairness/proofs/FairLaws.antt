@@ -1,8 +1,7 @@
 -- Between two transactions drawn from one guest every other guest that is waiting all that time has one drawn.
 use Rattle.std.proofs.Common.{◌≡◌, sym, ap, ◌∙◌, subst, true, true≢false, List, [], ◌∷◌, ◌++◌, append_assoc, ◌⊎◌, inl, inr, ◌≢◌, ℕ, ◌<◌, Some}
 use Rattle.std.proofs.lemmas.Option.{same_Some, none-some}
-use native.Mathlib.Decide.{ℕ_discrete}
-use lib.Seq.{append_snoc}
+use Rattle.base.proofs.Words.{ℕ_discrete, append_snoc}
 use Rattle.queues.specs.Queues.{Queues, is_waiting, served}
 use Rattle.queues.proofs.DrawLaws.{next-waits}
 use Rattle.engine.specs.Calls.{Call}

@@ -1,7 +1,7 @@
 -- Going round: after one is drawn from a guest everybody else comes before it, and where a guest is waiting nobody behind it is next.
 use Rattle.std.proofs.Common.{◌≡◌, refl, sym, ◌∙◌, Bool, true, false, cond, true≢false, ◌≢◌, ℕ, zero, suc, ◌+◌, ◌-◌, ◌%◌, ◌<◌, ◌≤◌, arith, Some}
 use Rattle.std.proofs.lemmas.Option.{same_Some, none-some}
-use native.Mathlib.Decide.{dec_lt, ℕ_discrete}
+use Rattle.base.proofs.Words.{dec_lt, ℕ_discrete}
 use Rattle.queues.specs.Queues.{Queues, is_waiting, guest_at, first_from, next_guest}
 
 -- going round from p, h comes before g

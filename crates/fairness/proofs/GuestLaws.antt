@@ -1,6 +1,6 @@
 -- A guest adds to no queue but its own, and draws are fair with guests' requests among the calls.
 use Rattle.std.proofs.Common.{◌≡◌, refl, sym, ap, ◌∙◌, subst, Bool, true, false, cond, List, [], ◌∷◌, ◌++◌, append_assoc, ◌≢◌, ℕ, eqb, ne_eqb, eqb-true, Option, Some, None}
-use native.Mathlib.Decide.{ℕ_discrete}
+use Rattle.base.proofs.Words.{ℕ_discrete}
 use Rattle.base.specs.Options.{if_there}
 use Rattle.terms.specs.declared.Transaction.{Transaction}
 use Rattle.state.specs.Answers.{if_accepted}

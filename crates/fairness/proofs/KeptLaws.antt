@@ -1,6 +1,6 @@
 -- What every call leaves in guests' queues.
 use Rattle.std.proofs.Common.{◌≡◌, refl, ap, ◌∙◌, eq-eqb, ne_eqb}
-use native.Mathlib.Decide.{ℕ_discrete}
+use Rattle.base.proofs.Words.{ℕ_discrete}
 use Rattle.store.proofs.FirstRow.{same_then, put_first, set-endorsed-first, clear-endorsed-first, cleared-first}
 use Rattle.terms.specs.Proposals.{content_with, content_of}
 use Rattle.store.specs.Writes.{put_certificate, clear_endorsed}
@@ -30,16 +30,16 @@ module _ (e : Engine) where
   open e use {state, table}
 
   renewed-queues : (c : Call) → refusal_for e c ≡ 0 → queues (renewed e c) ≡ accepted_queues e c
-  renewed-queues (opens own sheet) a = queues-clear _ (cleared-first table (filled sheet).ceiling.0)
-  renewed-queues (endorse p) a = let k = endorse-passed state table p a in queues-same table _ (set-endorsed-first table p.author.0 p.round.0 k.fits.from) k.formed.queues
+  renewed-queues (opens own sheet) a = queues-clear _ (cleared-first table (filled sheet).ceiling)
+  renewed-queues (endorse p) a = let k = endorse-passed state table p a in queues-same table _ (set-endorsed-first table p.author.0 p.round k.fits.from) k.formed.queues
   renewed-queues (certify d) a =
       let k = certify-passed state table d a in
-      queues-same table _ (put_first table (content_with state.own.0 state.round.0 (own_body state)) d (own-within state table k.formed) k.formed.numbers.round_from) k.formed.queues
+      queues-same table _ (put_first table (content_with state.own.0 state.round (own_body state)) d (own-within state table k.formed) k.formed.numbers.round_from) k.formed.queues
   renewed-queues (accept c) a =
       let k = accept-passed state table c a in
       let p = c.proposal in
       let held = put_certificate table (content_of p) c.endorsers in
-      queues-same table _ (same_then table held (clear_endorsed held p.author.0 p.round.0) (put_first table (content_of p) c.endorsers (fits-within state table p k.formed k.fits) k.fits.from) (clear-endorsed-first held p.author.0 p.round.0 k.fits.from)) k.formed.queues
+      queues-same table _ (same_then table held (clear_endorsed held p.author.0 p.round) (put_first table (content_of p) c.endorsers (fits-within state table p k.formed k.fits) k.fits.from) (clear-endorsed-first held p.author.0 p.round k.fits.from)) k.formed.queues
   renewed-queues commit a = queues-same table _ (first-commit state table a) (commits.accepted state table a).formed.queues
   renewed-queues (enqueue g x) a = let k = enqueue-passed state table g x a in queues-added table g x k.place k.formed.queues
   renewed-queues (draw v) a = let k = draw-passed state table v a in queues-drawn state.settings.allowance table k.row k.formed.queues

@@ -3,7 +3,7 @@ use Rattle.std.proofs.Common.{◌≡◌, ◌<◌, ℕ, Bool, true, false, eqb, L
 use Rattle.std.proofs.Math.Seq.{take-append_seam}
 use Rattle.std.proofs.lemmas.List.{get_or-set_other, length-set}
 use Rattle.std.proofs.lemmas.Grind.{get_or-set_at}
-use borrow.Author.Tests.{eqb-false}
+use Rattle.base.proofs.Words.{eqb-false}
 use Rattle.host.specs.declared.runs.Words.{Words}
 use Rattle.host.specs.declared.owned_runs.Kept.{Kept}
 use Rattle.host.specs.OwnedRuns.{OwnedWords, AllOwned}

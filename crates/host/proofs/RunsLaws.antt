@@ -2,7 +2,7 @@
 use Rattle.std.proofs.Common.{◌≡◌, ◌<◌, ◌+◌, ℕ, Bool, true, false, eqb, List, [], ◌∷◌, ◌++◌, take, get_or, set, length, refl, sym, ap, ◌∙◌, cond, ◌⊎◌, eqb-true}
 use Rattle.std.proofs.lemmas.List.{take_more, get_or-set_other, length-set}
 use Rattle.std.proofs.lemmas.Grind.{get_or-set_at}
-use borrow.Author.Tests.{eqb-false}
+use Rattle.base.proofs.Words.{eqb-false}
 use Rattle.agreement.specs.Entries.{states}
 use Rattle.nonforking.specs.Statement.{Prefix, Knows, weights, Run}
 use Rattle.library.specs.Lists as library

@@ -20,10 +20,10 @@ use Rattle.host.specs.declared.runs.LibraryCall.TheVariants.{Host, Guest}
 
 -- the read, and how long its out stretch is
 abbrev pub read_of : View → Aside
-read_of (Committee r) = engine.committee (record { 0 = r })
-read_of (Share m r) = engine.share (record { 0 = m }) (record { 0 = r })
-read_of (Effect m r a) = engine.effect (record { 0 = m }) (record { 0 = r }) a
-read_of (Certificate m r) = engine.certificate (record { 0 = m }) (record { 0 = r })
+read_of (Committee r) = engine.committee r
+read_of (Share m r) = engine.share (record { 0 = m }) r
+read_of (Effect m r a) = engine.effect (record { 0 = m }) r a
+read_of (Certificate m r) = engine.certificate (record { 0 = m }) r
 read_of (Block k) = engine.block k
 read_of Preview = engine.preview 192
 read_of Critical = engine.critical 64

@@ -1,4 +1,4 @@
-//! What guests read, each with the right to read: the caller's right, and then the host's own read.
+//! What guests read, each with the right to read: the caller's right, and then the host's own read. Parameters are those of include/forgelilac.h, as many as they are.
 #![tactic(auto, using(crate::proofs::Guests::guest_refused, crate::proofs::Guests::guest_allowed, crate::proofs::Guests::some_number))]
 
 ghost use Rattle.std.specs.Prelude.{[], length};
@@ -19,7 +19,7 @@ pub extern "C" fn forgelilac_guest_committee(
     out: &mut [u32],
 ) -> u32
     ensures { Done plain (comes_to_guest state.now table.now caller
-        (aside (committee (record { 0 = round })) out.old)) result state.now
+        (aside (committee round) out.old)) result state.now
         table.now out.new }
 {
     match guesting::check(state, Right::Read, caller) {
@@ -38,7 +38,7 @@ pub extern "C" fn forgelilac_guest_share(
     round: u32,
 ) -> u64
     ensures { Done packed (comes_to_guest state.now table.now caller
-        (aside (share (record { 0 = member }) (record { 0 = round })) [])) result
+        (aside (share (record { 0 = member }) round) [])) result
         state.now table.now [] }
 {
     match guesting::check(state, Right::Read, caller) {
@@ -59,7 +59,7 @@ pub extern "C" fn forgelilac_guest_bond_effect(
     out: &mut [u32],
 ) -> u32
     ensures { Done plain (comes_to_guest state.now table.now caller
-        (aside (effect (record { 0 = member }) (record { 0 = round }) amount) out.old))
+        (aside (effect (record { 0 = member }) round amount) out.old))
         result state.now table.now out.new }
 {
     match guesting::check(state, Right::Read, caller) {
@@ -79,7 +79,7 @@ pub extern "C" fn forgelilac_guest_certificate(
     out: &mut [u32],
 ) -> u32
     ensures { Done plain (comes_to_guest state.now table.now caller
-        (aside (certificate (record { 0 = author }) (record { 0 = round })) out.old)) result
+        (aside (certificate (record { 0 = author }) round) out.old)) result
         state.now table.now out.new }
 {
     match guesting::check(state, Right::Read, caller) {

@@ -33,5 +33,5 @@ fn weights_in(words: &[u32]) -> [Weight; 16]
 pub extern "C" fn forgelilac_leader_of(round: u32, weights: &[u32]) -> u32
     ensures { result ≡ unwrap_or (leader_of (word weights.now) round) 16 }
 {
-    committee::weighing::leader::leader(&weights_in(weights), Round(round)).0
+    committee::leader::leader(&weights_in(weights), Round(round)).0
 }

@@ -1,4 +1,4 @@
-//! What guests read of a host that owns its words, each with the right to read: the caller's right, and then the owner's own read.
+//! What guests read of a host that owns its words, each with the right to read: the caller's right, and then the owner's own read. Parameters are those of include/forgelilac.h, as many as they are.
 #![tactic(auto, using(crate::proofs::Guests::guest_refused, crate::proofs::Guests::guest_allowed, crate::proofs::Guests::some_number))]
 
 ghost use Rattle.std.specs.Prelude.{[], length};
@@ -22,7 +22,7 @@ pub extern "C" fn forgelilac_owned_guest_committee(
 ) -> u32
     requires { Owned state.now table.now kept.now }
     ensures { Done plain (comes_to_guest state.now table.now caller
-        (aside (committee (record { 0 = round })) out.old)) result state.now
+        (aside (committee round) out.old)) result state.now
         table.now out.new }
 {
     match guesting::check(state, Right::Read, caller) {
@@ -43,7 +43,7 @@ pub extern "C" fn forgelilac_owned_guest_share(
 ) -> u64
     requires { Owned state.now table.now kept.now }
     ensures { Done packed (comes_to_guest state.now table.now caller
-        (aside (share (record { 0 = member }) (record { 0 = round })) [])) result
+        (aside (share (record { 0 = member }) round) [])) result
         state.now table.now [] }
 {
     match guesting::check(state, Right::Read, caller) {
@@ -66,7 +66,7 @@ pub extern "C" fn forgelilac_owned_guest_bond_effect(
 ) -> u32
     requires { Owned state.now table.now kept.now }
     ensures { Done plain (comes_to_guest state.now table.now caller
-        (aside (effect (record { 0 = member }) (record { 0 = round }) amount) out.old))
+        (aside (effect (record { 0 = member }) round amount) out.old))
         result state.now table.now out.new }
 {
     match guesting::check(state, Right::Read, caller) {
@@ -90,7 +90,7 @@ pub extern "C" fn forgelilac_owned_guest_certificate(
 ) -> u32
     requires { Owned state.now table.now kept.now }
     ensures { Done plain (comes_to_guest state.now table.now caller
-        (aside (certificate (record { 0 = author }) (record { 0 = round })) out.old)) result
+        (aside (certificate (record { 0 = author }) round) out.old)) result
         state.now table.now out.new }
 {
     match guesting::check(state, Right::Read, caller) {

@@ -15,8 +15,8 @@ ghost use Rattle.host.specs.OwnedRuns.{host_opens_none, opens_none, OwnedWords, 
 
 use crate::runs::{Entry, GuestForm, HostCall, LibraryCall, View, Words};
 use crate::{
-    block_rows, guest_views, owned_batches, owned_calls, owned_guest_calls, owned_guest_views,
-    owned_ports, owned_previews, owned_queue_calls, owned_views, runs,
+    owned_batches, owned_calls, owned_guest_calls, owned_guest_views, owned_ports, owned_previews,
+    owned_queue_calls, owned_views, runs,
 };
 use batching::rows::CertificateRecord;
 
@@ -88,9 +88,10 @@ fn read(words: &mut Words, kept: &[u64], view: View) -> u64
             &mut [0; 64],
         ),
         View::BlockRows(known, number) => {
-            block_rows::forgelilac_block_rows(
+            owned_previews::forgelilac_owned_block_rows(
                 &words.state,
                 &words.table,
+                kept,
                 known,
                 number,
                 &mut [0; 576],
@@ -263,10 +264,11 @@ fn guest_read(words: &mut Words, kept: &[u64], caller: u32, view: View) -> u64
             )
         }
         View::BlockRows(known, number) => {
-            guest_views::forgelilac_guest_block_rows(
+            owned_guest_views::forgelilac_owned_guest_block_rows(
                 caller,
                 &words.state,
                 &words.table,
+                kept,
                 known,
                 number,
                 &mut [0; 576],

@@ -1,6 +1,6 @@
 //! The reads of a host that owns its words: what the public reads answer and leave, without a look at all that is held.
 //!
-//! Each has the parameters of the public read and the kept committees behind the table, and asks what the owner's calls ask. docs/HOSTS.md.
+//! Each has the parameters of the public read and the kept committees behind the table, as many as they are (include/forgelilac.h), and asks what the owner's calls ask. docs/HOSTS.md.
 
 ghost use Rattle.std.specs.Prelude.{[]};
 ghost use Rattle.engine.specs.Calls.{committee, share, effect, certificate, block};
@@ -21,7 +21,7 @@ pub extern "C" fn forgelilac_owned_committee(
 ) -> u32
     requires { Owned state.now table.now kept.now }
     ensures { Done plain
-        (comes_to state.now table.now (aside (committee (record { 0 = round })) out.old)) result
+        (comes_to state.now table.now (aside (committee round) out.old)) result
         state.now table.now out.new }
 {
     hosting::plain(views::committee(state, table, kept, round, out))
@@ -38,7 +38,7 @@ pub extern "C" fn forgelilac_owned_share(
 ) -> u64
     requires { Owned state.now table.now kept.now }
     ensures { Done packed (comes_to state.now table.now
-        (aside (share (record { 0 = member }) (record { 0 = round })) [])) result
+        (aside (share (record { 0 = member }) round) [])) result
         state.now table.now [] }
 {
     hosting::packed(views::share(state, table, kept, member, round))
@@ -58,7 +58,7 @@ pub extern "C" fn forgelilac_owned_bond_effect(
     requires { Owned state.now table.now kept.now }
     ensures { Done plain
         (comes_to state.now table.now
-        (aside (effect (record { 0 = member }) (record { 0 = round }) amount) out.old))
+        (aside (effect (record { 0 = member }) round amount) out.old))
         result state.now table.now out.new }
 {
     hosting::plain(views::bond_effect(state, table, kept, member, round, amount, out))
@@ -77,7 +77,7 @@ pub extern "C" fn forgelilac_owned_certificate(
     requires { Owned state.now table.now kept.now }
     ensures { Done plain
         (comes_to state.now table.now
-        (aside (certificate (record { 0 = author }) (record { 0 = round })) out.old)) result
+        (aside (certificate (record { 0 = author }) round) out.old)) result
         state.now table.now out.new }
 {
     hosting::plain(views::certificate(state, table, kept, author, round, out))

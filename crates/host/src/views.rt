@@ -23,7 +23,7 @@ pub extern "C" fn forgelilac_committee(
     out: &mut [u32],
 ) -> u32
     ensures { Done plain
-        (comes_to state.now table.now (aside (committee (record { 0 = round })) out.old)) result
+        (comes_to state.now table.now (aside (committee round) out.old)) result
         state.now table.now out.new }
 {
     hosting::plain(committee(state, table, round, out))
@@ -32,7 +32,7 @@ pub extern "C" fn forgelilac_committee(
 // The call, told as a result.
 fn committee(state: &[u32], table: &[u32], round: u32, out: &mut [u32]) -> Result<(), Refusal>
     ensures { Done plain
-        (comes_to state.now table.now (aside (committee (record { 0 = round })) out.old))
+        (comes_to state.now table.now (aside (committee round) out.old))
         (refusal_in result) state.now table.now out.new }
 {
     let Some(s) = words::states::state(state) else {
@@ -50,7 +50,7 @@ fn committee(state: &[u32], table: &[u32], round: u32, out: &mut [u32]) -> Resul
 #[unsafe(no_mangle)]
 pub extern "C" fn forgelilac_share(state: &[u32], table: &[u32], member: u32, round: u32) -> u64
     ensures { Done packed (comes_to state.now table.now
-        (aside (share (record { 0 = member }) (record { 0 = round })) [])) result
+        (aside (share (record { 0 = member }) round) [])) result
         state.now table.now [] }
 {
     hosting::packed(share(state, table, member, round))
@@ -60,7 +60,7 @@ pub extern "C" fn forgelilac_share(state: &[u32], table: &[u32], member: u32, ro
 fn share(state: &[u32], table: &[u32], member: u32, round: u32) -> Result<u32, Refusal>
     ensures { Done packed
         (comes_to state.now table.now
-        (aside (share (record { 0 = member }) (record { 0 = round })) []))
+        (aside (share (record { 0 = member }) round) []))
         (packed_in result) state.now table.now [] }
 {
     let s = words::states::state(state).ok_or(Refusal::Malformed)?;
@@ -79,7 +79,7 @@ pub extern "C" fn forgelilac_bond_effect(
 ) -> u32
     ensures { Done plain
         (comes_to state.now table.now
-        (aside (effect (record { 0 = member }) (record { 0 = round }) amount) out.old))
+        (aside (effect (record { 0 = member }) round amount) out.old))
         result state.now table.now out.new }
 {
     hosting::plain(bond_effect(state, table, member, round, amount, out))
@@ -96,7 +96,7 @@ fn bond_effect(
 ) -> Result<(), Refusal>
     ensures { Done plain
         (comes_to state.now table.now
-        (aside (effect (record { 0 = member }) (record { 0 = round }) amount) out.old))
+        (aside (effect (record { 0 = member }) round amount) out.old))
         (refusal_in result) state.now table.now out.new }
 {
     let Some(s) = words::states::state(state) else {
@@ -121,7 +121,7 @@ pub extern "C" fn forgelilac_certificate(
 ) -> u32
     ensures { Done plain
         (comes_to state.now table.now
-        (aside (certificate (record { 0 = author }) (record { 0 = round })) out.old)) result
+        (aside (certificate (record { 0 = author }) round) out.old)) result
         state.now table.now out.new }
 {
     hosting::plain(certificate(state, table, author, round, out))
@@ -137,7 +137,7 @@ fn certificate(
 ) -> Result<(), Refusal>
     ensures { Done plain
         (comes_to state.now table.now
-        (aside (certificate (record { 0 = author }) (record { 0 = round })) out.old))
+        (aside (certificate (record { 0 = author }) round) out.old))
         (refusal_in result) state.now table.now out.new }
 {
     let Some(s) = words::states::state(state) else {

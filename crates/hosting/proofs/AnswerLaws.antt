@@ -16,6 +16,6 @@ use Rattle.words.specs.Words.{Narrow}
 pub committee-narrow : (s : State) (t : List ℕ) (r : ℕ) {x : List Weight} → committee_refusal s t r ≡ 0 → x ≡ committee_read s.settings (view s t) r → Narrow x
 committee-narrow s t r n e =
     let f = committee-passed s t r n in
-    let w = committee_of s.settings (chain_of s.settings.ceiling.0 t s.blocks) r in
+    let w = committee_of s.settings (chain_of s.settings.ceiling t s.blocks) r in
     let k = committee-total s.settings t s.blocks r f.settings f.rows in
     rw e (λ i h. let l = sum_at (weight_in w) 16 i h in omega arith)

@@ -1,7 +1,6 @@
 -- The claims of a bond's effect, over words.
 use Rattle.std.proofs.Common.{◌≡◌, refl, sym, ap, ap₂, ◌∙◌, true, List, [], ◌∷◌, ◌++◌, ℕ, ◌+◌, ◌<◌, ◌≤◌, arith, length, length-append, get_or, leb, get_or-append-add, leb-true}
-use lib.ListN.{get_or-append}
-use lib.Seq.{paste, get_or-append_seam}
+use Rattle.base.proofs.Words.{get_or-append, paste, get_or-append_seam}
 use Rattle.base.proofs.Bools.{both}
 use Rattle.base.proofs.FoldLaws.{length-tab}
 use Rattle.base.proofs.PasteLaws.{paste-inside}
@@ -79,9 +78,9 @@ weights-long w = length-tab _ 16
 
 module _ (w t o : List ℕ) (m : Member) (r : Round) (a : ℕ) (z : (effect_result w t o m r a).refusal ≡ 0) where
   abbrev told : Effect
-  told = effect_read (state_in w).settings (view (state_in w) t) m.0 r.0 a
+  told = effect_read (state_in w).settings (view (state_in w) t) m.0 r a
 
-  accepted : effect_refusal (state_in w) t m.0 r.0 a ≡ 0
+  accepted : effect_refusal (state_in w) t m.0 r a ≡ 0
   unfolding effect_refusal
   accepted = (accepted-call w t o true (aside (effect m r a)) z).accepted
 
@@ -93,9 +92,9 @@ module _ (w t o : List ℕ) (m : Member) (r : Round) (a : ℕ) (z : (effect_resu
       rw (c.its_out, value-accepted (engine_in w t) (aside (effect m r a)) c.accepted) (put-told told o room)
 
 -- the largest difference is within the bound
-pub bounded_over_words : (w t o : List ℕ) (m : Member) (r : Round) (a : ℕ) → (effect_result w t o m r a).refusal ≡ 0 → word (effect_result w t o m r a).out 32 ≤ most_moved (total_at (state_in w) t r.0) a
+pub bounded_over_words : (w t o : List ℕ) (m : Member) (r : Round) (a : ℕ) → (effect_result w t o m r a).refusal ≡ 0 → word (effect_result w t o m r a).out 32 ≤ most_moved (total_at (state_in w) t r) a
 bounded_over_words w t o m r a z =
-    let b = effect_bounded (state_in w) t (weights-long w) m.0 r.0 a (accepted w t o m r a z) in
+    let b = effect_bounded (state_in w) t (weights-long w) m.0 r a (accepted w t o m r a z) in
     omega (arith, b, (out-told w t o m r a z).largest)
 
 -- in the words the shares move as in the effect
@@ -106,18 +105,18 @@ moved-told w t o m r a z i h = let x = out-told w t o m r a z in ap₂ (λ (y z 
 pub none_moves_further_over_words : (w t o : List ℕ) (m : Member) (r : Round) (a : ℕ) → (effect_result w t o m r a).refusal ≡ 0 → (i : ℕ) → i < 16
     → moved_in (effect_result w t o m r a).out i ≤ word (effect_result w t o m r a).out 32
 none_moves_further_over_words w t o m r a z i h =
-    rw (moved-told w t o m r a z i h, (out-told w t o m r a z).largest) (none_moves_further (state_in w) t m.0 r.0 a (accepted w t o m r a z) i h)
+    rw (moved-told w t o m r a z i h, (out-told w t o m r a z).largest) (none_moves_further (state_in w) t m.0 r a (accepted w t o m r a z) i h)
 
 -- and one moves as far
 pub one_moves_as_far_over_words : (w t o : List ℕ) (m : Member) (r : Round) (a : ℕ) → (effect_result w t o m r a).refusal ≡ 0
     → (i : ℕ) × (i < 16) × (moved_in (effect_result w t o m r a).out i ≡ word (effect_result w t o m r a).out 32)
 one_moves_as_far_over_words w t o m r a z =
-    let l = one_moves_as_far (state_in w) t m.0 r.0 a (accepted w t o m r a z) in
+    let l = one_moves_as_far (state_in w) t m.0 r a (accepted w t o m r a z) in
     (l.0, l.1, rw (moved-told w t o m r a z l.0 l.1, (out-told w t o m r a z).largest) l.2)
 
 -- the value of a share's read
 share-told : (w t : List ℕ) (i : Member) (r : Round) → (result_of w t [] true (aside (share i r))).refusal ≡ 0
-    → (share_refusal (state_in w) t i.0 r.0 ≡ 0) × ((result_of w t [] true (aside (share i r))).value ≡ share_read (state_in w).settings (view (state_in w) t) i.0 r.0)
+    → (share_refusal (state_in w) t i.0 r ≡ 0) × ((result_of w t [] true (aside (share i r))).value ≡ share_read (state_in w).settings (view (state_in w) t) i.0 r)
 unfolding result_of share_refusal
 share-told w t i r z =
     let c = accepted-call w t [] true (aside (share i r)) z in
@@ -128,6 +127,6 @@ pub shares_over_words : (w t o : List ℕ) (m i : Member) (r : Round) (a : ℕ) 
     → word (effect_result w t o m r a).out i.0 ≡ (result_of w t [] true (aside (share i r))).value
 shares_over_words w t o m i r a z y =
     let s = share-told w t i r y in
-    (out-told w t o m r a z).before i.0 (member_shared (state_in w) t i.0 r.0 s.0)
-    ∙ effect_of_shares (state_in w) t m.0 r.0 a i.0 (accepted w t o m r a z) s.0
+    (out-told w t o m r a z).before i.0 (member_shared (state_in w) t i.0 r s.0)
+    ∙ effect_of_shares (state_in w) t m.0 r a i.0 (accepted w t o m r a z) s.0
     ∙ sym s.1

@@ -1,6 +1,6 @@
 -- Laws of guests' calls over words: a caller lacking the right is refused and changes no word, one with it gets the host's answer, and the word of rights stays.
 use Rattle.std.proofs.Common.{◌≡◌, refl, sym, ap, ◌∙◌, List, ◌≢◌, ℕ, eq-eqb, ne_eqb}
-use native.Mathlib.Decide.{ℕ_discrete}
+use Rattle.base.proofs.Words.{ℕ_discrete}
 use Rattle.state.specs.declared.State.{State}
 use Rattle.terms.specs.declared.rights.Right.{Right}
 use Rattle.terms.proofs.RightLaws.{allowed, barred}

@@ -1,6 +1,6 @@
 -- What the certificate read shows is the held certificate as accept takes it: a host can pass it on as it is.
 use Rattle.std.proofs.Common.{◌≡◌, refl, sym, ap, ◌∙◌, true, List, [], ◌∷◌, ◌++◌, ℕ, zero, suc, ◌+◌, ◌<◌, ◌≤◌, arith, length, length-append, leb, ltb, lt-ltb, le-leb, leb-true}
-use lib.Seq.{paste, length-paste}
+use Rattle.base.proofs.Words.{paste, length-paste}
 use Rattle.base.proofs.Bools.{both}
 use Rattle.base.proofs.PasteLaws.{paste-inside}
 use Rattle.base.specs.Folds.{tab}
@@ -41,7 +41,7 @@ module _ (p : Proposal) (d k : ℕ) where
   length-held : length (held_words p d k) ≡ held_length
   unfolding held_words
   length-held =
-      let head = p.author.0 ∷ p.round.0 ∷ [] in
+      let head = p.author.0 ∷ p.round ∷ [] in
       length-append (head ++ body_words p.body) (d ∷ k ∷ [])
       ∙ ap (λ (n : ℕ). n + 2) (length-append head (body_words p.body) ∙ ap (λ (n : ℕ). 2 + n) (length-body p.body))
 
@@ -49,7 +49,7 @@ module _ (p : Proposal) (d k : ℕ) where
   unfolding body_in slot_in held_words body_words used_words tab tidy_body
   body_back = let b = p.body in rw (used_back b 0, used_back b 1, used_back b 2, used_back b 3) refl
 
-  words_back : (word (held_words p d k) 0 ≡ p.author.0) × ((word (held_words p d k) 1 ≡ p.round.0) × ((word (held_words p d k) 2 ≡ p.body.previous) × (word (held_words p d k) proposal_length ≡ d)))
+  words_back : (word (held_words p d k) 0 ≡ p.author.0) × ((word (held_words p d k) 1 ≡ p.round) × ((word (held_words p d k) 2 ≡ p.body.previous) × (word (held_words p d k) proposal_length ≡ d)))
   unfolding held_words body_words used_words
   words_back = (refl, (refl, (refl, refl)))
 
@@ -108,7 +108,7 @@ tidy-transactions b few =
 
 tidy-content : (p : Proposal) → p.body.count ≤ 4 → content_of (record { author = p.author; round = p.round; body = tidy_body p.body }) ≡ content_of p
 unfolding tidy_body
-tidy-content p few = ap (λ (l : List Transaction). record { author = p.author.0; round = p.round.0; previous = p.body.previous; transactions = l }) (tidy-transactions p.body few)
+tidy-content p few = ap (λ (l : List Transaction). record { author = p.author.0; round = p.round; previous = p.body.previous; transactions = l }) (tidy-transactions p.body few)
 
 shown-passes : (t : List ℕ) (a r k : ℕ) (o : List ℕ) → held_length ≤ length o → PassesOn t a r (paste o 0 (held_words (proposal_of (content_at t a r)) (endorsers_at t a r) k) held_length)
 unfolding proposal_of body_of
@@ -123,11 +123,11 @@ shown-passes t a r k o l =
     }
 
 -- what an accepted read writes
-pub passes_on : (w t o : List ℕ) (m : Member) (r : Round) → (result_of w t o true (aside (certificate m r))).refusal ≡ 0 → PassesOn t m.0 r.0 (result_of w t o true (aside (certificate m r))).out
+pub passes_on : (w t o : List ℕ) (m : Member) (r : Round) → (result_of w t o true (aside (certificate m r))).refusal ≡ 0 → PassesOn t m.0 r (result_of w t o true (aside (certificate m r))).out
 unfolding certificate_refusal certificate_read
 passes_on w t o m r z =
     let a = accepted-call w t o true (aside (certificate m r)) z in
-    let k = certificate-passed (state_in w) t m.0 r.0 a.accepted in
-    let told = sym (held-told (state_in w) t m.0 r.0 k.well k.from k.to k.held refl refl refl) in
+    let k = certificate-passed (state_in w) t m.0 r a.accepted in
+    let told = sym (held-told (state_in w) t m.0 r k.well k.from k.to k.held refl refl refl) in
     rw (a.its_out, value-accepted (engine_in w t) (aside (certificate m r)) a.accepted, ap (λ (h : Held). paste o 0 (held_words h.proposal h.endorsers h.block) held_length) told)
-    (shown-passes t m.0 r.0 (mark_at t m.0 r.0) o (leb-true held_length (length o) (both (state_reads w) (leb held_length (length o)) a.serving).1))
+    (shown-passes t m.0 r (mark_at t m.0 r) o (leb-true held_length (length o) (both (state_reads w) (leb held_length (length o)) a.serving).1))

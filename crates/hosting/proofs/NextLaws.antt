@@ -1,7 +1,7 @@
 -- After an accepted call the state's words can be read, and they give the state that the engine's call leaves: nothing is lost between two calls.
 use Rattle.std.proofs.Common.{◌≡◌, refl, sym, ap, ◌∙◌, Bool, true, List, ℕ, ◌<◌, ◌≤◌, arith, length, leb, leb-true}
 use Rattle.std.specs.Prelude.{Some}
-use lib.Seq.{paste}
+use Rattle.base.proofs.Words.{paste}
 use Rattle.base.proofs.Bools.{both}
 use Rattle.terms.specs.declared.Body.{Body}
 use Rattle.terms.specs.Sheets.{filled}

@@ -1,6 +1,6 @@
 -- What a host's call comes to, by what the engine's calls answer and leave.
 use Rattle.std.proofs.Common.{◌≡◌, refl, sym, ap, ◌∙◌, Bool, true, false, cond, List, [], ℕ, ◌+◌, ◌*◌, ◌≤◌, arith, eqb, length, eq-eqb, ne_eqb, le-leb}
-use lib.Seq.{paste}
+use Rattle.base.proofs.Words.{paste}
 use Rattle.std.specs.Prelude.{Result, Ok, Err, IfOk}
 use Rattle.refusals.specs.declared.Refusal.{Refusal}
 use Rattle.refusals.specs.Refusals.{refusal_in, packed_in}

@@ -39,7 +39,7 @@ pub fn accepted_formed()
 pub fn passes_on()
     ensures { (w t o : List ℕ) (m : Member) (r : Round)
         → (result_of w t o true (aside (certificate m r))).refusal ≡ 0
-        → PassesOn t m.0 r.0 (result_of w t o true (aside (certificate m r))).out }
+        → PassesOn t m.0 r (result_of w t o true (aside (certificate m r))).out }
 {}
 
 /// The largest difference that an accepted read of a bond's effect writes is within the bound.
@@ -48,7 +48,7 @@ pub fn bounded_over_words()
     ensures { (w t o : List ℕ) (m : Member) (r : Round) (a : ℕ)
         → (effect_result w t o m r a).refusal ≡ 0
         → word (effect_result w t o m r a).out EFFECT_LARGEST ≤ most_moved (total_at (state_in w) t
-        r.0) a }
+        r) a }
 {}
 
 /// No share in the words moves further than the largest difference says, and one moves as far.

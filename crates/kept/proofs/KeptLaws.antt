@@ -119,11 +119,11 @@ pub stored_held_then : (x : Opening) (l : List Request) → AskedInRange (after_
 stored_held_then x l i p d k = subst (λ (e : Engine). Holds e.table p.author p.round p d) (sym (leaves_as_calls (after_opening x) l)) (stored_held x (calls_asked (after_opening x) l) i p d k)
 
 -- and what is held was taken, with those endorsers
-pub held_stored_then : (x : Opening) (l : List Request) → AskedInRange (after_opening x) l → (a r : ℕ) (p : Content) (d : ℕ) → r ≤ (after_requests (after_opening x) l).state.settings.ceiling.0
+pub held_stored_then : (x : Opening) (l : List Request) → AskedInRange (after_opening x) l → (a r : ℕ) (p : Content) (d : ℕ) → r ≤ (after_requests (after_opening x) l).state.settings.ceiling
     → Holds (after_requests (after_opening x) l).table a r p d → StoredThen (after_opening x) l p d
 held_stored_then x l i a r p d to h =
     let q = leaves_as_calls (after_opening x) l in
-    held_stored x (calls_asked (after_opening x) l) i a r p d (subst (λ (e : Engine). r ≤ e.state.settings.ceiling.0) q to) (subst (λ (e : Engine). Holds e.table a r p d) q h)
+    held_stored x (calls_asked (after_opening x) l) i a r p d (subst (λ (e : Engine). r ≤ e.state.settings.ceiling) q to) (subst (λ (e : Engine). Holds e.table a r p d) q h)
 
 -- what is held so, the read shows
 pub stored_shown_then : (x : Opening) (l : List Request) → AskedInRange (after_opening x) l → (p : Content) (d : ℕ) → StoredThen (after_opening x) l p d → Shows (after_requests (after_opening x) l) p.author p.round p d

@@ -1,6 +1,6 @@
 -- Laws of runs of requests: each member's engine is the one after the calls that they count as.
 use Rattle.std.proofs.Common.{◌≡◌, sym, ◌∙◌, subst, ◌∷◌, ◌++◌, ℕ}
-use mathlib.Core.Path.{fun_ext}
+use Rattle.base.proofs.Words.{fun_ext}
 use Rattle.agreement.specs.Rules.{Block, Chain}
 use Rattle.terms.specs.Proposals.{Content}
 use Rattle.rules.specs.AnchorStarts.{StartsWithAnchor}

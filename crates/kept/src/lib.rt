@@ -65,7 +65,7 @@ pub fn stored_held()
 pub fn held_stored()
     ensures { (x : Opening) (l : List Request) → AskedInRange (after_opening x) l
         → (a r : ℕ) (p : Content) (d : ℕ)
-        → r ≤ (after_requests (after_opening x) l).state.settings.ceiling.0 → Holds
+        → r ≤ (after_requests (after_opening x) l).state.settings.ceiling → Holds
         (after_requests (after_opening x) l).table a r p d
         → StoredThen (after_opening x) l p d }
 {}

@@ -1,6 +1,6 @@
 -- What the library answers is the whole answer of the engine that the words give, and what cannot be read is refused.
 use Rattle.std.proofs.Common.{◌≡◌, refl, sym, ap, ◌∙◌, Bool, true, false, cond, ◌&&◌, List, ◌≢◌, ℕ, eq-eqb, ne_eqb, Option, Some, None}
-use native.Mathlib.Decide.{ℕ_discrete}
+use Rattle.base.proofs.Words.{ℕ_discrete}
 use Rattle.engine.specs.Calls.{Call, opens}
 use Rattle.engine.specs.Values.{value_of}
 use Rattle.engine.specs.Guests.{as_host}

@@ -1,6 +1,6 @@
 -- Laws of one call of the library: its words give the engine that the request leaves.
 use Rattle.std.proofs.Common.{◌≡◌, refl, sym, ap, ap₂, ◌∙◌, Bool, true, false, cond, ◌&&◌, List, ◌≢◌, ℕ, length, leb, le-leb, eq-eqb, ne_eqb, Option, Some, None}
-use native.Mathlib.Decide.{ℕ_discrete}
+use Rattle.base.proofs.Words.{ℕ_discrete}
 use Rattle.base.specs.Options.{if_there}
 use Rattle.base.proofs.Bools.{both}
 use Rattle.engine.specs.Calls.{Call, opens, propose, endorse, certify, accept, advance, commit, enqueue, draw, port, aside}

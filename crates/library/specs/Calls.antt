@@ -22,15 +22,17 @@ pub data LibraryCall : Type 0 where
   batch_by_host : List CertificateRecord → List ℕ → LibraryCall
   batch_by_guest : ℕ → List CertificateRecord → List ℕ → LibraryCall
 
--- with values of their types: what is written to a port is a byte
+-- a host's call hands in values of their types: what is written to a port is a byte
 abbrev pub HostTyped : HostCall → Type 0
 HostTyped (port x) = PortInRange x
 HostTyped c = Unit {0}
 
+-- so does a guest's form
 abbrev pub GuestTyped : GuestForm → Type 0
 GuestTyped (access a) = AccessInRange a
 GuestTyped c = Unit {0}
 
+-- so does any call: nothing but the byte of a port's write is asked, every other word may be any
 abbrev pub Typed : LibraryCall → Type 0
 Typed (by_host x) = HostTyped x
 Typed (by_guest c x) = GuestTyped x

@@ -1,7 +1,11 @@
 -- Laws of the lines of a chain: block by block, each block row by row, and each row place by place. The place of member m and round r is number 16 r + m.
-use Rattle.std.proofs.Common.{◌≡◌, refl, sym, ◌∙◌, Bool, true, false, List, [], ◌++◌, append_assoc, append-nil, ℕ, zero, suc, ◌+◌, ◌*◌, ◌/◌, ◌%◌, ◌<◌, ◌≤◌, arith, add-one, eq-eqb}
+use Rattle.std.proofs.Common.{◌≡◌, refl, sym, ◌∙◌, Bool, true, false, List, [], ◌++◌, append_assoc, append-nil, ℕ, zero, suc, ◌+◌, ◌*◌, ◌/◌, ◌%◌, ◌<◌, ◌≤◌, arith, add-one, eq-eqb, length}
 use Rattle.listing.specs.Lines.{listing_line}
-use Rattle.base.specs.Folds.{fold_to}
+use Rattle.base.specs.Folds.{fold_to, sum_to}
+use Rattle.base.proofs.FoldLaws.{fold_more}
+use Rattle.base.proofs.SumLaws.{sum_more, sum_up}
+use Rattle.base.specs.Puts.{Puts}
+use Rattle.base.proofs.PutLaws.{puts_then, puts_as}
 use Rattle.base.proofs.Ranges.{fold_none, fold_next}
 use Rattle.store.specs.Table.{held_at, mark_at, content_at, block_round}
 use Rattle.terms.specs.declared.sheet.Settings.{Settings}
@@ -14,13 +18,15 @@ use Rattle.chain_committees.specs.BlockChanges.{start_at}
 use Rattle.chain_committees.specs.Links.{Marked}
 use Rattle.chain_committees.specs.LinkRuns.{places_over, rows_over}
 use Rattle.chain_committees.proofs.RunLaws.{SameAt}
-use Rattle.listing.specs.Listing.{content_lines, chain_lines, place_lines, add_lines, row_lines}
+use Rattle.listing.specs.Listing.{content_lines, chain_lines, place_lines, add_lines, row_lines, block_rows}
 use Rattle.listing.proofs.ListingLaws.{lines-append, place-absent, place_other, place-present}
-use Rattle.listing.specs.Counts.{in_block}
+use Rattle.listing.specs.Counts.{in_block, row_count}
+use Rattle.listing.specs.Listable.{PlaceListable, RowListable}
+use Rattle.listing.proofs.CountLaws.{row_turned}
 
 -- the lines of the block after the first k of a table
 abbrev pub block_lines : Settings → List ℕ → ℕ → List ℕ
-block_lines S t k = content_lines (k + 1) (block_round t (k + 1)) (ordered S (block_at S.ceiling.0 t (k + 1)) (chain_of S.ceiling.0 t k))
+block_lines S t k = content_lines (k + 1) (block_round t (k + 1)) (ordered S (block_at S.ceiling t (k + 1)) (chain_of S.ceiling t k))
 
 -- lists put one after the other, after one more
 fold_append : (h : ℕ → List ℕ) (n : ℕ) (x : List ℕ) → fold_to (λ i l. l ++ h i) n x ≡ x ++ fold_to (λ i l. l ++ h i) n []
@@ -69,22 +75,52 @@ module _ (t : List ℕ) (k : ℕ) where
       )
       (sym (row-after a (m + 1) (rows_over (add_lines t k) a m [])))
 
+-- ---- a row place by place
+
+module _ (t : List ℕ) (k r a : ℕ) where
+  -- the lines of the first i places of a row, from member a on, and how many they are
+  abbrev pub lines_to : ℕ → List ℕ
+  lines_to i = fold_to (λ j. add_lines t k (r * 16 + (a + j) % 16)) i []
+
+  abbrev pub count_to : ℕ → ℕ
+  count_to i = sum_to (λ j. in_block t k (r * 16 + (a + j) % 16)) i
+
+  -- one place more, that of member m
+  pub row_put : {o u v : List ℕ} {at to next : ℕ} (i m : ℕ) → m ≡ (a + i) % 16 → Puts o u at to (lines_to i) (count_to i * 141) → Puts u v to next (place_lines t k (r * 16 + m)) (in_block t k (r * 16 + m) * 141)
+      → Puts o v at next (lines_to (i + 1)) (count_to (i + 1) * 141)
+  unfolding add_lines
+  row_put i m e p q = puts_as (fold_more _ i []) (omega (arith, sum_more (λ j. in_block t k (r * 16 + (a + j) % 16)) i)) (puts_then p (rw e at q))
+
+  row_fits : (i m : ℕ) → m ≡ (a + i) % 16 → i < 16 → count_to i + in_block t k (r * 16 + m) ≤ row_count t k r
+  row_fits i m e h =
+      let f : ℕ → ℕ = λ j. in_block t k (r * 16 + (a + j) % 16) in
+      rw e (omega (arith, sum_more f i, sum_up f (i + 1) 16 (omega arith), row_turned t k a r))
+
+  -- there is room for it
+  pub row_ready : {b : ℕ} {o u : List ℕ} {at to : ℕ} (i m : ℕ) → m ≡ (a + i) % 16 → i < 16 → RowListable t k b a r o at → length u ≡ length o → Puts o u at to (lines_to i) (count_to i * 141) → PlaceListable t k b m r u to
+  row_ready i m e h d l p =
+      record {
+        within = record { member = omega arith; row = omega (arith, d.row) };
+        round = d.round;
+        room = omega (arith, row_fits i m e h, d.room, p.past, p.room);
+      }
+
 module _ (S : Settings) (t : List ℕ) where
   -- a block row by row
-  pub block-rows : (k : ℕ) → block_lines S t k ≡ rows_over (add_lines t (k + 1)) (start_at S t k) S.ceiling.0 []
+  pub block-rows : (k : ℕ) → block_lines S t k ≡ rows_over (add_lines t (k + 1)) (start_at S t k) S.ceiling []
   unfolding start_at
   block-rows k =
-      let n = S.ceiling.0 in
+      let n = S.ceiling in
       rw (ordered-rows S (block_at n t (k + 1)) (chain_of n t k)) (rows-lines t (k + 1) n (start_of S (block_at n t (k + 1)) (chain_of n t k)) n (omega arith))
 
   -- a chain block by block
-  pub lines_none : chain_lines S (chain_of S.ceiling.0 t 0) ≡ []
+  pub lines_none : chain_lines S (chain_of S.ceiling t 0) ≡ []
   unfolding chain_lines
-  lines_none = rw (chain-none S.ceiling.0 t) refl
+  lines_none = rw (chain-none S.ceiling t) refl
 
-  pub lines_next : (k : ℕ) → chain_lines S (chain_of S.ceiling.0 t (k + 1)) ≡ chain_lines S (chain_of S.ceiling.0 t k) ++ block_lines S t k
+  pub lines_next : (k : ℕ) → chain_lines S (chain_of S.ceiling t (k + 1)) ≡ chain_lines S (chain_of S.ceiling t k) ++ block_rows S t k
   unfolding chain_lines
-  lines_next k = let n = S.ceiling.0 in rw (add-one k, chain_more n t k, chain_length n t k, add-one k, block-round n t (suc k)) refl
+  lines_next k = let n = S.ceiling in rw (← block-rows k, add-one k, chain_more n t k, chain_length n t k, add-one k, block-round n t (suc k)) refl
 
 module _ (t : List ℕ) (k m r : ℕ) (h : m < 16) where
   place_at : place_lines t k (r * 16 + m) ≡ content_lines k (block_round t k) (at_most_one (holds_at t k m r))

@@ -1,6 +1,6 @@
 -- Laws of lines: numbers digit by digit, and lengths.
 use Rattle.std.proofs.Common.{◌≡◌, refl, ap, sym, ◌∙◌, List, [], ◌∷◌, ◌++◌, append_assoc, append-nil, ℕ, zero, suc, ◌+◌, ◌/◌, ◌%◌, ◌^◌, ◌≤◌, ◌<◌, arith, pow-suc, length, length-append, lt-ltb, le-ltb, add-one}
-use native.Mathlib.Decide.{dec_lt}
+use Rattle.base.proofs.Words.{dec_lt}
 use Rattle.base.specs.Folds.{tab}
 use Rattle.base.proofs.Ranges.{tab_next}
 use Rattle.terms.specs.declared.Transaction.{Transaction}

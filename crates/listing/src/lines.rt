@@ -101,6 +101,7 @@ fn put_triple(buffer: &mut [u8], at: usize, transaction: Transaction) -> usize
 }
 
 // The triples of a body.
+#[tactic(auto, using(crate::proofs::LineLaws::triples_none))]
 fn put_triples(buffer: &mut [u8], at: usize, body: Body) -> usize
     requires { (body.count ≤ 4) × (at + 96 ≤ length buffer.old) }
     ensures { Puts buffer.old buffer.new at result (triples_fields (transactions_of body)) 96 }
@@ -113,6 +114,7 @@ fn put_triples(buffer: &mut [u8], at: usize, body: Body) -> usize
 }
 
 /// Puts the line of a certificate in a listing: its block, the block's round, its own round, its author, and a triple for each of its transactions, at most four. That is at most 141 bytes with its CRLF.
+// Seven parameters: the line's fields in their order, and where it is put.
 pub(crate) fn put_listing(
     buffer: &mut [u8],
     at: usize,
@@ -123,7 +125,7 @@ pub(crate) fn put_listing(
     body: Body,
 ) -> usize
     requires { (body.count ≤ 4) × (at + 141 ≤ length buffer.old) }
-    ensures { Puts buffer.old buffer.new at result (listing_line block block_round.0 round.0
+    ensures { Puts buffer.old buffer.new at result (listing_line block block_round round
         author.0 (transactions_of body)) 141 }
 {
     let block_end = put_number(buffer, at, block);

@@ -6,7 +6,7 @@
 ghost use Rattle.std.specs.Prelude.{◌≡◌, ◌<◌, [], ◌∷◌, ◌++◌, OnOk, decimal};
 ghost use Rattle.std.specs.Io.KnownBytes.{Appends};
 
-use committee::weighing;
+use committee::leader;
 use std::io;
 use std::io::Write;
 
@@ -19,7 +19,7 @@ fn join(sum: u32, number: u32) -> u32 {
 fn join_set(set: u32, sum: u32) -> u32 {
     let mut all = sum;
     for k in 0..17u32 {
-        let m = weighing::leader::member_at(set, k);
+        let m = leader::member_at(set, k);
         all = join(all, m.0);
     }
     all

@@ -1,2 +1,3 @@
 pub mod AuthorLaws
 pub mod PreviousLaws
+pub mod ViewRules

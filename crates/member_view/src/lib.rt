@@ -46,6 +46,7 @@ impl<'a> View<'a> {
     ghost use Rattle.member_view.specs.Views.{settings_of, shown};
 
     /// Check 1 of every call but open, where it is known whether the state is well formed, and committees may be cached.
+    #[tactic(auto, using(crate::proofs::ViewRules::cached))]
     pub fn known(
         formed: bool,
         cache: &'a [u64],
@@ -71,9 +72,10 @@ impl<'a> View<'a> {
     /// Check 5: is the round 0 or over the ceiling?
     #[tactic(auto, unfolding(rules::specs::Tests::bad_round))]
     pub fn is_bad_round(&self, round: Round) -> bool
-        ensures { result ≡ bad_round (settings_of self.now) round.0 }
+        ensures { result ≡ bad_round (settings_of self.now) round }
     {
-        round.0 == 0 || self.state.settings.ceiling.0 < round.0
+        let ceiling = self.state.settings.ceiling;
+        round.0 == 0 || ceiling.0 < round.0
     }
 
     /// Check 6: is a transaction out of range, or are there too many?
@@ -85,6 +87,7 @@ impl<'a> View<'a> {
     }
 
     /// The chain of the table, whole.
+    #[tactic(auto, using(state::proofs::Walkable::readable))]
     pub fn chain(&self) -> Chain<'a>
         ensures table { result.table.now ≡ self.now.table.now }
         ensures settings { result.settings.now ≡ settings_of self.now }
@@ -96,7 +99,7 @@ impl<'a> View<'a> {
     /// Check 8: is the committee of the round unknown?
     #[tactic(auto, unfolding(rules::specs::Tests::unknown))]
     pub fn is_unknown(&self, round: Round) -> bool
-        ensures { result ≡ unknown (settings_of self.now) (shown self.now) round.0 }
+        ensures { result ≡ unknown (settings_of self.now) (shown self.now) round }
     {
         !bonded::known(self.chain(), round)
     }
@@ -104,9 +107,9 @@ impl<'a> View<'a> {
     /// Check 8 of an endorsement: above round 1, is the committee of the round before unknown?
     #[tactic(auto, unfolding(rules::specs::Tests::above))]
     pub fn is_unknown_before(&self, round: Round) -> bool
-        requires { 0 < round.0 }
+        requires { 0 < round }
         ensures { result
-            ≡ above round.0 (unknown (settings_of self.now) (shown self.now) (round.0 - 1)) }
+            ≡ above round (unknown (settings_of self.now) (shown self.now) (round - 1)) }
     {
         round.0 != 1 && self.is_unknown(Round(round.0 - 1))
     }
@@ -114,7 +117,7 @@ impl<'a> View<'a> {
     /// The committee of a round.
     pub fn committee(&self, round: Round) -> Committee
         ensures weights { result.weights
-            ≡ committee_of (settings_of self.now) (shown self.now).chain round.0 }
+            ≡ committee_of (settings_of self.now) (shown self.now).chain round }
         ensures margin { result.margin ≡ (settings_of self.now).margin }
     {
         cache::committee(self.cache, self.chain(), round)
@@ -123,9 +126,9 @@ impl<'a> View<'a> {
     /// The committees of a round and of the one before, by one walk.
     pub fn committees(&self, round: Round) -> Committees
         ensures at { result.at.weights
-            ≡ committee_of (settings_of self.now) (shown self.now).chain round.0 }
+            ≡ committee_of (settings_of self.now) (shown self.now).chain round }
         ensures before { result.before.weights
-            ≡ committee_of (settings_of self.now) (shown self.now).chain (round.0 - 1) }
+            ≡ committee_of (settings_of self.now) (shown self.now).chain (round - 1) }
         ensures margin_at { result.at.margin ≡ (settings_of self.now).margin }
         ensures margin_before { result.before.margin ≡ (settings_of self.now).margin }
     {
@@ -133,27 +136,30 @@ impl<'a> View<'a> {
     }
 
     /// Is the member's place of the round held?
+    #[tactic(auto, using(crate::proofs::ViewRules::held))]
     pub fn is_held(&self, member: Member, round: Round) -> bool
         requires place { member.0 < 16 }
-        requires from { 0 < round.0 }
-        requires to { round.0 ≤ (settings_of self.now).ceiling.0 }
-        ensures { result ≡ is_held ((shown self.now).dag member.0 round.0) }
+        requires from { 0 < round }
+        requires to { round ≤ (settings_of self.now).ceiling }
+        ensures { result ≡ is_held ((shown self.now).dag member.0 round) }
     {
         store::held(self.table, member, round)
     }
 
     /// Check 10 of an endorsement: is the member's place of the round held or already endorsed?
+    #[tactic(auto, using(crate::proofs::ViewRules::endorsed))]
     pub fn is_taken(&self, member: Member, round: Round) -> bool
         requires place { member.0 < 16 }
-        requires from { 0 < round.0 }
-        requires to { round.0 ≤ (settings_of self.now).ceiling.0 }
-        ensures { result ≡ (is_held ((shown self.now).dag member.0 round.0)
-            || (shown self.now).endorsed member.0 round.0) }
+        requires from { 0 < round }
+        requires to { round ≤ (settings_of self.now).ceiling }
+        ensures { result ≡ (is_held ((shown self.now).dag member.0 round)
+            || (shown self.now).endorsed member.0 round) }
     {
         self.is_held(member, round) || store::endorsed(self.table, member, round)
     }
 
     /// Check 28: do the authors of the certificates held in the present round form no quorum of its committee?
+    #[tactic(auto, using(crate::proofs::AuthorLaws::thin_by))]
     pub fn is_thin(&self) -> bool
         ensures { let v = self.now in
             result
@@ -168,6 +174,7 @@ impl<'a> View<'a> {
     }
 
     /// Check 10 of propose: is there a proposal, or is one's own place held?
+    #[tactic(auto, using(crate::proofs::ViewRules::proposing))]
     pub fn has_proposed(&self) -> bool
         ensures { let v = self.now in
             result ≡ (is_held (shown v).proposal
@@ -177,24 +184,26 @@ impl<'a> View<'a> {
     }
 
     /// Check 11: above round 1, is a named previous certificate not held?
+    #[tactic(auto, using(crate::proofs::ViewRules::lacking))]
     pub fn lacks_previous(&self, proposal: Proposal) -> bool
-        requires from { 0 < proposal.round.0 }
-        requires to { proposal.round.0 ≤ (settings_of self.now).ceiling.0 }
+        requires from { 0 < proposal.round }
+        requires to { proposal.round ≤ (settings_of self.now).ceiling }
         ensures { result
-            ≡ above proposal.round.0 (missing (settings_of self.now) (shown self.now)
+            ≡ above proposal.round (missing (settings_of self.now) (shown self.now)
             (content_of proposal)) }
     {
-        proposal.round.0 != 1
+        let round = proposal.round;
+        round.0 != 1
             && !base::is_subset(
                 proposal.body.previous as u32,
-                store::held_set(self.table, Round(proposal.round.0 - 1)),
+                store::held_set(self.table, Round(round.0 - 1)),
             )
     }
 
     /// Check 12: above round 1, is the previous set no quorum of the round before?
     #[tactic(auto, unfolding(rules::specs::Tests::above))]
     pub fn lacks_quorum(&self, proposal: Proposal) -> bool
-        requires { 0 < proposal.round.0 }
+        requires { 0 < proposal.round }
         ensures { result ≡ too_few_previous (settings_of self.now) (shown self.now)
             (content_of proposal) }
     {
@@ -205,7 +214,7 @@ impl<'a> View<'a> {
     }
 
     /// Checks 4, 5, 6, 7 of a proposal.
-    #[tactic(auto, unfolding(base::specs::Checks::refusal))]
+    #[tactic(auto, using(crate::proofs::ViewRules::form_fits), unfolding(base::specs::Checks::refusal))]
     pub fn check_form(&self, proposal: Proposal) -> Result<(), Refusal>
         ensures refusal { refusal_in result
             ≡ refusal (form_checks (settings_of self.now) (content_of proposal)) }

@@ -1,6 +1,6 @@
 -- The numbers that answer the calls of a list, and a test of them on views.
 use Rattle.std.proofs.Common.{◌≡◌, refl, ap, ◌∙◌, Bool, true, false, ◌&&◌, List, [], ◌∷◌, ℕ, ◌*◌, ◌/◌, eqb, ltb, eqb-true}
-use mathlib.Core.Bool.{false≢true}
+use Rattle.base.proofs.Words.{false≢true}
 use Rattle.base.specs.Checks.{Checks, refusal}
 use Rattle.base.proofs.Bools.{both}
 use Rattle.base.proofs.CheckLaws.{passes}
@@ -48,12 +48,12 @@ case_of e c = of-rules c (λ x. elim x [ ])
 
 module _ (S : Settings) where
   abbrev aside_by : ℕ → MemberView S → Aside → Checks
-  aside_by k s (committee r) = reading_committee S s r.0
-  aside_by k s (share m r) = reading_share S s m.0 r.0
-  aside_by k s (effect m r a) = reading_effect S s m.0 r.0 a
-  aside_by k s (certificate m r) = reading_certificate S s m.0 r.0
+  aside_by k s (committee r) = reading_committee S s r
+  aside_by k s (share m r) = reading_share S s m.0 r
+  aside_by k s (effect m r a) = reading_effect S s m.0 r a
+  aside_by k s (certificate m r) = reading_certificate S s m.0 r
   aside_by k s (block n) = reading_block S s n
-  aside_by k s (preview n) = (ltb (n / 3) (16 * S.ceiling.0), 25) ∷ rules.checks S k s rules.commit
+  aside_by k s (preview n) = (ltb (n / 3) (16 * S.ceiling), 25) ∷ rules.checks S k s rules.commit
   aside_by k s (critical n) = (ltb (n / 2) 32, 25) ∷ rules.checks S k s rules.commit
   aside_by k s (blocks m n w) = blocks_checks S s.chain m n w
   aside_by k s listing = []

@@ -36,10 +36,10 @@ pub record Shown (S : Settings) (k : ℕ) (e : Engine) (s : Engine × MemberView
 
 module _ {S : Settings} {k : ℕ} {e : Engine} (g : Good S k e) where
   propose-back : (c : Call) (p : Content) → signatures.Proposes S k (view_at S e) (ruled e c) p → Proposes e c p
-  propose-back (propose b) p (signatures.proposes x l) = subst (λ (i : ℕ). Proposes e (propose b) (content_with i e.state.round.0 b)) g.own (proposes b)
+  propose-back (propose b) p (signatures.proposes x l) = subst (λ (i : ℕ). Proposes e (propose b) (content_with i e.state.round b)) g.own (proposes b)
   propose-back (draw v) p (signatures.proposes x l) =
       let b = drawn_body e.state e.table v in
-      subst (λ (i : ℕ). Proposes e (draw v) (content_with i e.state.round.0 b)) g.own (draws v)
+      subst (λ (i : ℕ). Proposes e (draw v) (content_with i e.state.round b)) g.own (draws v)
   propose-back c p x = elim x [ ]
 
   endorse-back : (c : Call) (p : Content) → signatures.Endorses (ruled e c) p → Endorses c p

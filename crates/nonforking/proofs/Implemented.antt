@@ -40,7 +40,7 @@ module _ (S : Settings) (k : ℕ) (e : Engine) (g : Good S k e) where
   -- what the table shows of a round up to the ceiling
   pub held-rounds : (a r : ℕ) (p : Content) → (view_at S e).dag a r ≡ Some p → IsRound S p.round
   held-rounds a r p h =
-      let i = in_dag e.state.settings.ceiling.0 e.table a r p h in
+      let i = in_dag e.state.settings.ceiling e.table a r p h in
       subst (λ (T : Settings). IsRound T p.round) g.settings (omega (arith, i.from, i.round), omega (arith, i.to, i.round))
 
   pub follows : (c : Call) → Handed k e c → refusal_for e c ≡ 0 → Follows S k (view_at S e) (ruled e c) (view_at S (after e c))

@@ -1,6 +1,6 @@
 -- A test whether the calls of a list have values in range, and are no opens but of numbers above 15 and no enqueues but of guests above 7, which are refused, and nothing asked of ports.
 use Rattle.std.proofs.Common.{◌≡◌, subst, Bool, true, false, ◌&&◌, List, [], ◌∷◌, arith, ltb, ltb-true}
-use mathlib.Core.Bool.{false≢true}
+use Rattle.base.proofs.Words.{false≢true}
 use Rattle.base.proofs.Bools.{both}
 use Rattle.base.proofs.CheckLaws.{refuses}
 use Rattle.terms.specs.declared.Member.{Member}

@@ -33,11 +33,11 @@ held-shown e a r p d h k =
 
 -- the round is one of the state's
 abbrev IsRound : Engine → ℕ → Type 0
-IsRound e r = (0 < r) × (r ≤ e.state.settings.ceiling.0)
+IsRound e r = (0 < r) × (r ≤ e.state.settings.ceiling)
 
 -- it stays one, as long as no open is accepted
 round-stays : {S : Settings} {own : ℕ} {e : Engine} → Good S own e → (c : Call) → InRange c → NoOpen e c → (r : ℕ) → IsRound e r → IsRound (after e c) r
-round-stays g c w o r = subst (λ (z : Settings). (0 < r) × (r ≤ z.ceiling.0)) (g.settings ∙ sym (good_after g c w o).settings)
+round-stays g c w o r = subst (λ (z : Settings). (0 < r) × (r ≤ z.ceiling)) (g.settings ∙ sym (good_after g c w o).settings)
 
 stored-round : (x : Opening) (l : List Call) → AllInRange l → (p : Content) (d : ℕ) → Stored (after_opening x) l p d → IsRound (after_calls (after_opening x) l) p.round
 unfolding after_calls

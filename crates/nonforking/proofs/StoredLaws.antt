@@ -1,6 +1,6 @@
 -- Over every list of calls a held certificate keeps the proposal and the endorsers that it was stored with: it is held with them exactly where a certify or an accept took it with them.
 use Rattle.std.proofs.Common.{◌≡◌, refl, sym, ap₂, ◌∙◌, subst, subst₂, Bool, true, false, true≢false, List, [], ◌∷◌, ◌≢◌, ◌⊎◌, inl, inr, ℕ, ◌<◌, ◌≤◌, length}
-use native.Mathlib.Decide.{ℕ_discrete}
+use Rattle.base.proofs.Words.{ℕ_discrete}
 use Rattle.terms.specs.declared.Member.{Member}
 use Rattle.terms.specs.Proposals.{Content, content_of}
 use Rattle.store.specs.Table.{Within, held_at, endorsers_at, content_at, record_word}
@@ -130,7 +130,7 @@ module _ (e : Engine) where
 
   stores : (c : Call) → refusal_for e c ≡ 0 → Stores e c
   stores (opens own sheet) n = clears own sheet refl
-  stores (endorse q) n = keeps (λ x. elim x [ ]) (λ a r h. same-endorsed (set-endorsed table q.author.0 q.round.0))
+  stores (endorse q) n = keeps (λ x. elim x [ ]) (λ a r h. same-endorsed (set-endorsed table q.author.0 q.round))
   stores (certify d) n = puts _ d (certifies d)
   stores (accept c) n = puts (content_of c.proposal) c.endorsers (accepts c)
   stores commit n = keeps (λ x. elim x [ ]) (λ a r h. same-marked (only-marks state table n))
@@ -150,7 +150,7 @@ module _ (e : Engine) where
       record {
         at = fits-within state table p k.formed k.fits;
         free = k.free;
-        same = λ a r. same-endorsed (clear-endorsed (put_certificate table (content_of p) c.endorsers) p.author.0 p.round.0);
+        same = λ a r. same-endorsed (clear-endorsed (put_certificate table (content_of p) c.endorsers) p.author.0 p.round);
       }
   put-taken c n q d x = elim x [ ]
 
@@ -170,7 +170,7 @@ module _ (e : Engine) where
 
   module _ {S : Settings} {own : ℕ} (g : Good S own e) where
     -- what an accepted certify or accept took fits in a record
-    pub taken-fits : (c : Call) → InRange c → refusal_for e c ≡ 0 → (p : Content) (d : ℕ) → Takes e c p d → Storable state.settings.ceiling.0 p × (d < 65536)
+    pub taken-fits : (c : Call) → InRange c → refusal_for e c ≡ 0 → (p : Content) (d : ℕ) → Takes e c p d → Storable state.settings.ceiling p × (d < 65536)
     taken-fits (certify i) w n _ _ (certifies _) = let k = certify-passed state table i n in (own-placed state table k.formed k.proposing g.small, w)
     taken-fits (accept c) w n _ _ (accepts _) = let k = accept-passed state table c n in (placed state table c.proposal k.formed k.fits w.0, w.1)
     taken-fits c w n y z x = elim x [ ]
@@ -211,15 +211,15 @@ stored_held x (c ∷ l) i p d (inr k) = holds_after (after_calls (after_opening 
 stored_held x [] i p d y = elim y [ ]
 
 -- after an accepted open nothing is
-nothing-held : (e : Engine) (own : Member) (sheet : Sheet) → refusal_for e (opens own sheet) ≡ 0 → (a r : ℕ) → r ≤ (after e (opens own sheet)).state.settings.ceiling.0 → held_at (after e (opens own sheet)).table a r ≡ true → ⊥
+nothing-held : (e : Engine) (own : Member) (sheet : Sheet) → refusal_for e (opens own sheet) ≡ 0 → (a r : ℕ) → r ≤ (after e (opens own sheet)).state.settings.ceiling → held_at (after e (opens own sheet)).table a r ≡ true → ⊥
 nothing-held e own sheet n a r =
-    subst (λ (z : Engine). r ≤ z.state.settings.ceiling.0 → held_at z.table a r ≡ true → ⊥) (sym (accepted-new e (opens own sheet) n))
-    (λ to h. true≢false (sym h ∙ held-cleared e.table (filled sheet).ceiling.0 a r to))
+    subst (λ (z : Engine). r ≤ z.state.settings.ceiling → held_at z.table a r ≡ true → ⊥) (sym (accepted-new e (opens own sheet) n))
+    (λ to h. true≢false (sym h ∙ held-cleared e.table (filled sheet).ceiling a r to))
 
 -- the newest call took it, or it was held before
-stored-by : (x : Opening) (c : Call) (l : List Call) → AllInRange (c ∷ l) → (a r : ℕ) (p : Content) (d : ℕ) → r ≤ (after (after_calls (after_opening x) l) c).state.settings.ceiling.0
+stored-by : (x : Opening) (c : Call) (l : List Call) → AllInRange (c ∷ l) → (a r : ℕ) (p : Content) (d : ℕ) → r ≤ (after (after_calls (after_opening x) l) c).state.settings.ceiling
     → Holds (after (after_calls (after_opening x) l) c).table a r p d
-    → (r ≤ (after_calls (after_opening x) l).state.settings.ceiling.0 → Holds (after_calls (after_opening x) l).table a r p d → Stored (after_opening x) l p d)
+    → (r ≤ (after_calls (after_opening x) l).state.settings.ceiling → Holds (after_calls (after_opening x) l).table a r p d → Stored (after_opening x) l p d)
     → Stored (after_opening x) (c ∷ l) p d
 stored-by x c l i a r p d to h older = by (ℕ_discrete (refusal_for e c) 0)
   where
@@ -231,7 +231,7 @@ stored-by x c l i a r p d to h older = by (ℕ_discrete (refusal_for e c) 0)
 
     before : NoOpen e c → Holds e.table a r p d → Stored (after_opening x) (c ∷ l) p d
     before o y =
-        inr (o, older (subst (λ (S : Settings). r ≤ S.ceiling.0) ((good_after g.good c i.0 o).settings ∙ sym g.good.settings) to) y)
+        inr (o, older (subst (λ (S : Settings). r ≤ S.ceiling) ((good_after g.good c i.0 o).settings ∙ sym g.good.settings) to) y)
 
     no_open : (IsOpen c → ⊥) → NoOpen e c
     no_open f own sheet q n = f (subst IsOpen (sym q) (is_open own sheet))
@@ -250,7 +250,7 @@ stored-by x c l i a r p d to h older = by (ℕ_discrete (refusal_for e c) 0)
     by (no n) = before (λ own sheet q. n) (subst (λ (z : Engine). Holds z.table a r p d) (refused-same e c n) h)
 
 -- and what is held an accepted certify or accept took, with those endorsers
-pub held_stored : (x : Opening) (l : List Call) → AllInRange l → (a r : ℕ) (p : Content) (d : ℕ) → r ≤ (after_calls (after_opening x) l).state.settings.ceiling.0
+pub held_stored : (x : Opening) (l : List Call) → AllInRange l → (a r : ℕ) (p : Content) (d : ℕ) → r ≤ (after_calls (after_opening x) l).state.settings.ceiling
     → Holds (after_calls (after_opening x) l).table a r p d → Stored (after_opening x) l p d
 unfolding after_calls
 held_stored x [] i a r p d to h = absurd (nothing-held x.before x.own x.sheet x.accepted a r to h.held)

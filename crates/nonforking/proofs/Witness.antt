@@ -75,7 +75,12 @@ record Computed : Type 0 where
   enough_after : quorum settings.margin (committee_in settings (view_after views calls 1) 4) (contains 9) ≡ true
 
 computed : Computed
-unfolding transactions_of slot_of tab states result ruled_refusal after put mark is_place refusal bad_transactions all_in_range bond_in_range bad_previous_set is_empty unknown known_by committee_of committee_by leader_by step_from bonded_from start_of ordered rows row changes_of changes above missing quorum outsider short quorum_weight bound_of any_to sum_to contains mem insert signers_of bad_round same_proposal same_transactions same_transaction unvoted anchor_at leader_of member_at member_below count_below in_chain block_of blocks_of taken committed level in_history listing is_made is_signed is_bounded is_fair is_run all_to
+unfolding transactions_of slot_of tab states result ruled_refusal after put mark is_place refusal bad_transactions
+    all_in_range bond_in_range bad_previous_set is_empty unknown known_by committee_of committee_by leader_by
+    step_from bonded_from start_of ordered rows row changes_of changes above missing quorum outsider short
+    quorum_weight bound_of any_to sum_to contains mem insert signers_of bad_round same_proposal same_transactions
+    same_transaction unvoted anchor_at leader_of member_at member_below count_below in_chain block_of blocks_of
+    taken committed level in_history listing is_made is_signed is_bounded is_fair is_run all_to
 computed =
     record {
       plain = refl;

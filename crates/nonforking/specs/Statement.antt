@@ -27,7 +27,7 @@ use Rattle.state.specs.States.{own_body}
 
 -- its chain, newest block first: the blocks that the table tells
 abbrev pub chain : Engine → Chain Content
-chain e = chain_of e.state.settings.ceiling.0 e.table e.state.blocks
+chain e = chain_of e.state.settings.ceiling e.table e.state.blocks
 
 -- its chain as it is listed, oldest block first: each with its block round and its certificates in the block's order: by round, and within a round numbers rise from that of the leader of the block's round, with 0 after 15
 abbrev pub listed : Engine → List (ℕ × List Content)
@@ -47,7 +47,7 @@ weights e r = weight_in (committee_of e.state.settings (chain e) r)
 
 -- what it proposes with a body: author and round are its own
 abbrev pub draft : Engine → Body → Content
-draft e b = content_with e.state.own.0 e.state.round.0 b
+draft e b = content_with e.state.own.0 e.state.round b
 
 -- ---- members, and lists of their calls
 
@@ -123,7 +123,7 @@ module _ {B : Behaviour} (X : Members B) where
 
   -- in the committee of every round that a correct member knows, the faulty members weigh together at most the fault bound
   abbrev pub WithinBound : List Entry → Type 0
-  WithinBound l = (j r : ℕ) → correct j ≡ true → 1 ≤ r → r ≤ settings.ceiling.0
+  WithinBound l = (j r : ℕ) → correct j ≡ true → 1 ≤ r → r ≤ settings.ceiling
       → Knows (engine_after l j) r
       → weigh 16 (weights (engine_after l j) r) (outside correct)
       ≤ bound_of settings.margin (total 16 (weights (engine_after l j) r))

@@ -32,7 +32,7 @@ sheet = record {
 abbrev pub settings : Settings
 settings = record {
   lookback = 1;
-  ceiling = record { 0 = 4 };
+  ceiling = 4;
   allowance = 4;
   weights = weight 3 ∷ weight 3 ∷ weight 1 ∷ weight 1 ∷ replicate 12 (weight 0);
   margin = 3;
@@ -69,7 +69,7 @@ abbrev pub bond : Body
 bond = record { previous = 0; count = 1; slots = replicate 4 (Bond (record { 0 = 0 }) 5) }
 
 abbrev pub at : ℕ → ℕ → Body → Proposal
-at a r b = record { author = record { 0 = a }; round = record { 0 = r }; body = b }
+at a r b = record { author = record { 0 = a }; round = r; body = b }
 
 abbrev pub of : ℕ → ℕ → Body → ℕ → Call
 of a r b endorsers = accept (record { proposal = at a r b; endorsers = endorsers })
@@ -116,10 +116,10 @@ round3 =
 -- the four reads, and an open that is refused; member 2 has no block and does not know round 4
 abbrev pub reading : List Answered
 reading =
-    by 0 (aside (committee (record { 0 = 4 })))
-    ∷ by 0 (aside (share (record { 0 = 2 }) (record { 0 = 4 })))
-    ∷ by 0 (aside (certificate (record { 0 = 3 }) (record { 0 = 1 }))) ∷ by 1 (aside (block 1))
-    ∷ refused 8 2 (aside (committee (record { 0 = 4 }))) ∷ refused 23 2 (aside (block 1))
+    by 0 (aside (committee 4))
+    ∷ by 0 (aside (share (record { 0 = 2 }) 4))
+    ∷ by 0 (aside (certificate (record { 0 = 3 }) 1)) ∷ by 1 (aside (block 1))
+    ∷ refused 8 2 (aside (committee 4)) ∷ refused 23 2 (aside (block 1))
     ∷ refused 4 1 (opens (record { 0 = 16 }) sheet)
     ∷ round3
 

@@ -55,7 +55,7 @@ pub fn stored_held()
 #[tactic(auto, using(crate::proofs::StoredLaws::held_stored))]
 pub fn held_stored()
     ensures { (x : Opening) (l : List Call) → AllInRange l → (a r : ℕ) (p : Content) (d : ℕ)
-        → r ≤ (after_calls (after_opening x) l).state.settings.ceiling.0
+        → r ≤ (after_calls (after_opening x) l).state.settings.ceiling
         → Holds (after_calls (after_opening x) l).table a r p d → Stored (after_opening x) l p d }
 {}
 

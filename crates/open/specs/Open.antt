@@ -20,12 +20,12 @@ closed_state =
       own = record { 0 = 0 };
       settings = record {
         lookback = 0;
-        ceiling = record { 0 = 0 };
+        ceiling = 0;
         allowance = 0;
         weights = replicate 16 (weight 0);
         margin = 0;
       };
-      round = record { 0 = 0 };
+      round = 0;
       proposal = None;
       blocks = 0;
       rights = record { 0 = 0 };
@@ -38,7 +38,7 @@ fresh_state own S R = fresh own S R
 -- 4 member above 15; 2 setting out of range; 3 no positive weight; 1 lent table too short
 abbrev pub opening : List ℕ → Member → Settings → Checks
 opening t own S = (nat_lt 15 own.0, 4) ∷ (out_of_range S, 2) ∷ (weightless S, 3)
-    ∷ (nat_lt (length t) (used_length S.ceiling.0), 1) ∷ []
+    ∷ (nat_lt (length t) (used_length S.ceiling), 1) ∷ []
 
 unfoldable pub open_refusal : List ℕ → Member → Settings → ℕ
 open_refusal t own S = refusal (opening t own S)
@@ -50,4 +50,4 @@ open_state s t own sheet =
 
 unfoldable pub open_table : List ℕ → Member → Sheet → List ℕ
 open_table t own sheet =
-    if_accepted (open_refusal t own (filled sheet)) (clear_used t (filled sheet).ceiling.0) t
+    if_accepted (open_refusal t own (filled sheet)) (clear_used t (filled sheet).ceiling) t

@@ -55,7 +55,7 @@ fn fresh(own: Member, settings: Settings, rights: Rights) -> State
 #[tactic(auto, unfolding(base::specs::Checks::refusal, crate::specs::Open::open_refusal))]
 fn check(table: &[u32], own: Member, settings: &Settings) -> Result<(), Refusal>
     ensures refusal { refusal_in result ≡ open_refusal table.now own settings.now }
-    ensures room { OnOk result (Row table.now settings.now.ceiling.0) }
+    ensures room { OnOk result (Row table.now settings.now.ceiling) }
 {
     if 15 < own.0 {
         return Err(Refusal::MemberRange);

@@ -27,6 +27,6 @@ pub fn same_opened()
         → open_state s t own a ≡ open_state v u own b }
     ensures table { (t u : List ℕ) (own : Member) (a b : Sheet) → filled a ≡ filled b
         → open_refusal t own (filled a) ≡ 0 → open_refusal u own (filled b) ≡ 0
-        → take (used_length (filled a).ceiling.0) (open_table t own a)
-        ≡ take (used_length (filled b).ceiling.0) (open_table u own b) }
+        → take (used_length (filled a).ceiling) (open_table t own a)
+        ≡ take (used_length (filled b).ceiling) (open_table u own b) }
 {}

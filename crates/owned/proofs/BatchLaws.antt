@@ -1,6 +1,6 @@
 -- Laws of the owner's batch: what a turn leaves, and which batch is refused.
 use Rattle.std.proofs.Common.{◌≡◌, refl, sym, ap, Bool, true, false, cond, ◌||◌, List, [], ◌∷◌, ◌⊎◌, inl, inr, ℕ, ◌<◌, ◌≤◌, arith, ltb, length, lt-ltb, le-ltb}
-use mathlib.Core.Bool.{or-true}
+use Rattle.base.proofs.Words.{or-true}
 use Rattle.base.specs.Checks.{refusal}
 use Rattle.state.specs.WellFormed.{well_formed}
 use Rattle.engine.specs.Calls.{accept}

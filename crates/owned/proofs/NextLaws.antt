@@ -3,7 +3,7 @@ use Rattle.base.proofs.CheckLaws.{numbered}
 use Rattle.base.proofs.Passed.{passed}
 use Rattle.base.specs.Sets.{is_subset}
 use Rattle.base.proofs.UnionLaws.{in_none}
-use mathlib.Core.Bool.{false≢true}
+use Rattle.base.proofs.Words.{false≢true}
 use Rattle.terms.specs.declared.Body.{Body}
 use Rattle.terms.specs.declared.Certificate.{Certificate}
 use Rattle.terms.specs.declared.Proposal.{Proposal}
@@ -48,7 +48,7 @@ use Rattle.owned.proofs.KeepingLaws.{subset_in, rooted-endorsed, rooted-put, hel
 use Rattle.owned.specs.Rooted.{Rooted, NamesHeld, ProposalRooted}
 
 -- check 11: whom a proposal that passes it names is held
-held_named : (s : State) (t : List ℕ) (p : Content) → p.previous < 65536 → p.round ≤ s.settings.ceiling.0 → above p.round (missing s.settings (view s t) p) ≡ false → NamesHeld t p.round p.previous
+held_named : (s : State) (t : List ℕ) (p : Content) → p.previous < 65536 → p.round ≤ s.settings.ceiling → above p.round (missing s.settings (view s t) p) ≡ false → NamesHeld t p.round p.previous
 held_named s t p small to h11 a q h e i =
     let m = later p.round (missing s.settings (view s t) p) (λ z. omega arith) h11 in
     let z = subset_in p.previous (held_set t (p.round - 1)) a (whole (is_subset p.previous (held_set t (p.round - 1))) (sym (missing-held s t p small (omega arith) to) ∙ m)) i in
@@ -62,7 +62,7 @@ held_named s t p small to h11 a q h e i =
 module _ (s : State) (t : List ℕ) where
   -- ---- whom they name
 
-  proposed-held : (b : Body) → b.previous < 65536 → propose_refusal s t b ≡ 0 → NamesHeld t s.round.0 b.previous
+  proposed-held : (b : Body) → b.previous < 65536 → propose_refusal s t b ≡ 0 → NamesHeld t s.round b.previous
   unfolding propose_refusal numbered
   proposed-held b small ok =
       let x = refusal-passed s t (rules.propose b.previous (transactions_of b)) ok in
@@ -70,7 +70,7 @@ module _ (s : State) (t : List ℕ) where
       passed _ refl x.1 λ h6 h7 h10 h8 h9 h11 h12.
       held_named s t (rules.drafted s.settings s.own.0 (view s t) b.previous (transactions_of b)) small f.numbers.round_to h11
 
-  accepted-held : (c : Certificate) → c.proposal.body.previous < 65536 → accept_refusal s t c ≡ 0 → NamesHeld t c.proposal.round.0 c.proposal.body.previous
+  accepted-held : (c : Certificate) → c.proposal.body.previous < 65536 → accept_refusal s t c ≡ 0 → NamesHeld t c.proposal.round c.proposal.body.previous
   unfolding accept_refusal numbered
   accepted-held c small ok =
       let x = refusal-passed s t (rules.accept (content_of c.proposal) c.endorsers) ok in
@@ -85,12 +85,12 @@ module _ (s : State) (t : List ℕ) where
     pub settings : u.settings ≡ s.settings
     pub blocks : u.blocks ≡ s.blocks
     pub last : last_round v s.blocks ≡ last_round t s.blocks
-    pub rooted : Rooted s.settings.ceiling.0 v
+    pub rooted : Rooted s.settings.ceiling v
     pub proposal : ProposalRooted u v
 
-  module _ (f : Rooted s.settings.ceiling.0 t) (g : ProposalRooted s t) where
+  module _ (f : Rooted s.settings.ceiling t) (g : ProposalRooted s t) where
     -- where the state stays, and what was held is held
-    table-keeps : {v : List ℕ} → last_round v s.blocks ≡ last_round t s.blocks → Rooted s.settings.ceiling.0 v → ((a q : ℕ) → 0 < q → held_at t a q ≡ true → held_at v a q ≡ true) → Keeps s v
+    table-keeps : {v : List ℕ} → last_round v s.blocks ≡ last_round t s.blocks → Rooted s.settings.ceiling v → ((a q : ℕ) → 0 < q → held_at t a q ≡ true → held_at v a q ≡ true) → Keeps s v
     table-keeps l r h = record { settings = refl; blocks = refl; last = l; rooted = r; proposal = λ a q z e i. h a q z (g a q z e i) }
 
     first-keeps : {v : List ℕ} → OnlyFirst t v → Keeps s v
@@ -99,10 +99,10 @@ module _ (s : State) (t : List ℕ) where
     pub same-keeps : Keeps s t
     same-keeps = record { settings = refl; blocks = refl; last = refl; rooted = f; proposal = g }
 
-    pub endorse-keeps : (p : Proposal) → Keeps s (set_endorsed t p.author.0 p.round.0)
+    pub endorse-keeps : (p : Proposal) → Keeps s (set_endorsed t p.author.0 p.round)
     endorse-keeps p =
-        let v = set_endorsed t p.author.0 p.round.0 in
-        let o = set-endorsed t p.author.0 p.round.0 in
+        let v = set_endorsed t p.author.0 p.round in
+        let o = set-endorsed t p.author.0 p.round in
         table-keeps (last-same t v s.blocks (block-round-endorse o s.blocks)) (rooted-endorsed o f) (λ a q z h. held-endorse o a q ∙ h)
 
     pub enqueue-keeps : (i : ℕ) (x : Transaction) → enqueue_refusal s t i x ≡ 0 → Keeps s (added_table t i x)
@@ -124,7 +124,7 @@ module _ (s : State) (t : List ℕ) where
     pub advance-keeps : Keeps (advanced s) t
     advance-keeps = record { settings = refl; blocks = refl; last = refl; rooted = f; proposal = λ a q z e i. absurd (false≢true (sym (in_none a) ∙ i)) }
 
-    pub accept-keeps : (c : Certificate) → c.proposal.body.previous < 65536 → accept_refusal s t c ≡ 0 → Keeps s (clear_endorsed (put_certificate t (content_of c.proposal) c.endorsers) c.proposal.author.0 c.proposal.round.0)
+    pub accept-keeps : (c : Certificate) → c.proposal.body.previous < 65536 → accept_refusal s t c ≡ 0 → Keeps s (clear_endorsed (put_certificate t (content_of c.proposal) c.endorsers) c.proposal.author.0 c.proposal.round)
     accept-keeps c small ok =
         table-keeps (last-same t v s.blocks (block-round-endorse o s.blocks ∙ block-round-put t p c.endorsers at s.blocks)) (rooted-endorsed o (rooted-put t p c.endorsers at few small y.free (accepted-held c small ok) f))
         (λ a q z h. held-endorse o a q ∙ held-grows t p c.endorsers at a q h)
@@ -147,7 +147,7 @@ module _ (s : State) (t : List ℕ) where
         few : length p.transactions ≤ 4
         few = let b = y.fits.body.few in let a = y.formed.settings.allowance_to in omega (arith, length-transactions c.proposal.body)
 
-    pub certify-keeps : (d : ℕ) → (own_body s).previous < 65536 → certify_refusal s t d ≡ 0 → Keeps s (put_certificate t (content_with s.own.0 s.round.0 (own_body s)) d)
+    pub certify-keeps : (d : ℕ) → (own_body s).previous < 65536 → certify_refusal s t d ≡ 0 → Keeps s (put_certificate t (content_with s.own.0 s.round (own_body s)) d)
     certify-keeps d small ok =
         table-keeps (last-same t v s.blocks (block-round-put t p d at s.blocks)) (rooted-put t p d at few small y.free g f) (λ a q z h. held-grows t p d at a q h)
       where
@@ -155,7 +155,7 @@ module _ (s : State) (t : List ℕ) where
         y = certify-passed s t d ok
 
         p : Content
-        p = content_with s.own.0 s.round.0 (own_body s)
+        p = content_with s.own.0 s.round (own_body s)
 
         v : List ℕ
         v = put_certificate t p d

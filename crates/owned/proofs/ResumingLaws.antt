@@ -1,6 +1,6 @@
 -- Laws of the words that a resume takes: those that an open leaves, and those that are owned.
 use Rattle.std.proofs.Common.{◌≡◌, sym, ap, ◌∙◌, true, false, List, [], ℕ, suc, ◌+◌, ◌*◌, ◌<◌, ◌≤◌, arith, length}
-use mathlib.Core.Bool.{false≢true}
+use Rattle.base.proofs.Words.{false≢true}
 use Rattle.terms.specs.Sheets.{filled}
 use Rattle.store.specs.Table.{held_at}
 use Rattle.store.specs.Writes.{clear_used}
@@ -33,7 +33,7 @@ module _ (w t k : List ℕ) (own : ℕ) (sheet : List ℕ) (rights : ℕ) (z : (
   abbrev c : Call
   c = engine.opens (record { 0 = own }) (sheet_in sheet (record { 0 = rights }))
 
-  pub opened_resumes : (state_in (comes_to w t (opens own sheet rights)).state).settings.ceiling.0 * 16 + 17 ≤ length k
+  pub opened_resumes : (state_in (comes_to w t (opens own sheet rights)).state).settings.ceiling * 16 + 17 ≤ length k
       → Resumable (comes_to w t (opens own sheet rights)).state (comes_to w t (opens own sheet rights)).table k
   opened_resumes l =
       let d = open_handed (record { 0 = own }) sheet (record { 0 = rights }) in
@@ -44,9 +44,9 @@ module _ (w t k : List ℕ) (own : ℕ) (sheet : List ℕ) (rights : ℕ) (z : (
       let u = a.its_table ∙ ap (λ (e : Engine). e.table) n in
       record {
         reads = g.can_read;
-        whole = record { formed = accepted-formed w t [] d z; rooted = rw (s, u) (rooted-cleared t (filled (sheet_in sheet (record { 0 = rights }))).ceiling.0); proposal = rw (s, u) (names-none (clear_used t (filled (sheet_in sheet (record { 0 = rights }))).ceiling.0) 1) };
+        whole = record { formed = accepted-formed w t [] d z; rooted = rw (s, u) (rooted-cleared t (filled (sheet_in sheet (record { 0 = rights }))).ceiling); proposal = rw (s, u) (names-none (clear_used t (filled (sheet_in sheet (record { 0 = rights }))).ceiling) 1) };
         room = l;
       }
 
-pub owned_resumes : (w t k l : List ℕ) → Owned w t k → (state_in w).settings.ceiling.0 * 16 + 17 ≤ length l → Resumable w t l
+pub owned_resumes : (w t k l : List ℕ) → Owned w t k → (state_in w).settings.ceiling * 16 + 17 ≤ length l → Resumable w t l
 owned_resumes w t k l h r = record { reads = h.reads; whole = record { formed = sym h.cached.form; rooted = h.rooted; proposal = h.proposal }; room = r }

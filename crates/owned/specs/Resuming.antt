@@ -10,14 +10,14 @@ use Rattle.owned.specs.Rooted.{Rooted, ProposalRooted}
 -- a well-formed state whose histories are whole
 pub record Whole (s : State) (t : List ℕ) : Type 0 where
   pub formed : well_formed s t ≡ true
-  pub rooted : Rooted s.settings.ceiling.0 t
+  pub rooted : Rooted s.settings.ceiling t
   pub proposal : ProposalRooted s t
 
 -- the state's words w can be read, the state is such a one with the table t, and k has room for the committees of all rounds
 pub record Resumable (w t k : List ℕ) : Type 0 where
   pub reads : state_reads w ≡ true
   pub whole : Whole (state_in w) t
-  pub room : words_to (state_in w).settings.ceiling.0 ≤ length k
+  pub room : words_to (state_in w).settings.ceiling ≤ length k
 
 -- where b is true k has the committees of all rounds, from round 0 on, else it is as it was
 pub record Filled (w t k₀ : List ℕ) (b : Bool) (k : List ℕ) : Type 0 where

@@ -15,7 +15,6 @@ pub mod marks;
 pub mod pivots;
 pub mod port_calls;
 pub mod previewing;
-pub mod prospecting;
 pub mod queue_calls;
 pub mod renewal;
 pub mod resuming;

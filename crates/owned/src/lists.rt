@@ -8,7 +8,7 @@ ghost use Rattle.hosting.specs.Calls.{packed, Done};
 ghost use Rattle.hosting.specs.HostCalls.{comes_to, aside};
 ghost use Rattle.owned.specs.Owned.{Owned};
 
-use crate::{pivots, previewing};
+use crate::{known, pivots, previewing};
 use refusals::Refusal;
 
 /// What a commit would do: the certificates of each block that it would add, three words each, into `list`.
@@ -43,7 +43,7 @@ pub fn critical(
     pivots::critical_kept(&s, table, kept, list)
 }
 
-/// What `number` blocks after the first `known` hold, eighteen words for each certificate, into `list`. This one looks at all that is held, as the public read does: which rows a block has is told by a walk over all places alone.
+/// What `number` blocks after the first `known` hold, eighteen words for each certificate, into `list`. Whom a block's rows start with is told by the kept committees; which rows it has, by one pass over the marks of all that is held.
 pub fn block_rows(
     state: &[u32],
     table: &[u32],
@@ -60,5 +60,5 @@ pub fn block_rows(
     let Some(s) = words::states::state(state) else {
         return Err(Refusal::Malformed);
     };
-    spans::blocks(&s, table, known, number, list)
+    spans::blocks_in_view(&known::view(&s, table, kept), known, number, list)
 }

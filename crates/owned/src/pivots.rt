@@ -9,7 +9,6 @@ ghost use Rattle.state.specs.Cached.{Cached};
 ghost use Rattle.critical.specs.Critical.{critical_places, reading_critical, critical_refusal, critical_list};
 ghost use Rattle.critical.specs.Answers.{Weighs};
 ghost use Rattle.owned.specs.Known.{known};
-ghost use Rattle.owned.specs.Pivots.{Led};
 
 use crate::{known, leaders};
 use critical::Weighed;
@@ -17,23 +16,6 @@ use member_view::View;
 use refusals::Refusal;
 use state::State;
 use terms::{Member, Round};
-use votes::counting;
-
-// What the commit of a state that passes its checks is weighed by.
-fn weigh_up(view: &View, leader: Member) -> Weighed
-    requires { Led view.now.state.now view.now.table.now leader.0 }
-    ensures { Weighs view.now.state.now view.now.table.now result }
-{
-    let round = view.state.round;
-    let committee = view.committee(round);
-    let weights = committee.weights;
-    Weighed {
-        leader,
-        weights,
-        bound: committee.bound(),
-        votes: counting::votes_for(view.table, &weights, round, leader),
-    }
-}
 
 // The checks of a well-formed state: 25, and those of commit; the list has so many words. Gives what an accepted commit is weighed by.
 #[tactic(auto, unfolding(base::specs::Checks::refusal))]
@@ -48,8 +30,10 @@ fn weigh(view: &View, words: usize) -> Result<Weighed, Refusal>
     }
     let mut leaders = [16u32; 1025];
     leaders::check(view, &mut leaders)?;
-    let leader = Member(leaders[view.state.round.0 as usize - 1]);
-    Ok(weigh_up(view, leader))
+    let round = view.state.round;
+    let leader = Member(leaders[round.0 as usize - 1]);
+    let committee = view.committee(round);
+    Ok(Weighed::new(view.state, view.table, leader, committee))
 }
 
 /// Lists the certificates that a commit hangs on; the value is their number. The table is lent for writing, and is afterwards as it was.
@@ -68,6 +52,5 @@ pub(crate) fn critical_kept(
 {
     let words = list.len();
     let weighed = weigh(&known::view(state, table, kept), words)?;
-    let put = critical::list_places(state, table, &weighed, list);
-    Ok((put / 2) as u32)
+    Ok(critical::list_places(state, table, &weighed, list))
 }

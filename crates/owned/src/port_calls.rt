@@ -8,6 +8,7 @@ ghost use Rattle.hosting.specs.Calls.{plain, packed, Done};
 ghost use Rattle.hosting.specs.HostCalls.{comes_to, port};
 ghost use Rattle.owned.specs.Owned.{Owned};
 
+use crate::known;
 use refusals::Refusal;
 
 /// Reads a register of a guest's port, 0 to 7, by its offset 0 to 7. The value is the byte.
@@ -27,7 +28,8 @@ pub fn port_read(
     let Some(s) = words::states::state(state) else {
         return Err(Refusal::Malformed);
     };
-    serial::read_formed(&s, table, guest, offset)
+    let words = known::words(&s, table, kept);
+    serial::read_formed(&kept[..words], &s, table, guest, offset)
 }
 
 /// Writes a byte to a register of a guest's port, 0 to 7, by its offset 0 to 7.

@@ -9,7 +9,7 @@ ghost use Rattle.preview.specs.Preview.{previewing, preview_refusal, preview_ent
 ghost use Rattle.owned.specs.Known.{known};
 ghost use Rattle.owned.specs.Rooted.{Rooted};
 
-use crate::{known, leaders, prospecting};
+use crate::{known, leaders};
 use blocks::histories::anchors;
 use chain_committees::bonded;
 use member_view::View;
@@ -26,8 +26,8 @@ fn check(view: &View, words: usize, leaders: &mut [u32; 1025]) -> Result<(), Ref
     ensures leaders { OnOk result (leaders.new
         ≡ leaders_for view.now.state.now view.now.table.now) }
 {
-    let ceiling = view.state.settings.ceiling.0 as usize;
-    if words / 3 < 16 * ceiling {
+    let ceiling = view.state.settings.ceiling;
+    if words / 3 < 16 * ceiling.0 as usize {
         return Err(Refusal::LengthRange);
     }
     leaders::check(view, leaders)
@@ -42,7 +42,7 @@ pub(crate) fn preview_kept(
     list: &mut [u32],
 ) -> Result<u32, Refusal>
     requires { Cached state.now table.now true (known state.now table.now kept.now)
-        × Rooted state.now.settings.ceiling.0 table.now }
+        × Rooted state.now.settings.ceiling table.now }
     ensures refusal { refusal_in result ≡ preview_refusal state.now table.now (length list.old) }
     ensures value { IfOk result (λ n. n ≡ length (preview_entries state.now table.now)) }
     ensures list { list.new ≡ preview_list state.now table.now list.old }
@@ -51,8 +51,9 @@ pub(crate) fn preview_kept(
     let mut leaders = [16u32; 1025];
     check(&known::view(state, table, kept), words, &mut leaders)?;
     let last = bonded::last_round(table, state.blocks);
-    let top = Round(state.round.0 - 1);
+    let round = state.round;
+    let top = Round(round.0 - 1);
     anchors::take_leaders(table, &mut leaders, last, top);
-    let put = prospecting::list_blocks(table, &leaders, last, top, state.blocks, list);
+    let put = prospects::list_whole(table, &leaders, last, top, state.blocks, list);
     Ok((put / 3) as u32)
 }

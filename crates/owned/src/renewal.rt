@@ -18,24 +18,24 @@ use terms::{Member, Round};
 // Have the kept committees room for all rounds up to the ceiling, from round 0 on?
 fn is_full(kept: &[u64], ceiling: Round) -> bool
     ensures { result ≡ true → (first_round kept.now ≡ 0)
-        × (words_to ceiling.0 ≤ length kept.now) }
+        × (words_to ceiling ≤ length kept.now) }
 {
     cache::words_to(ceiling) <= kept.len() && kept[0] == 0
 }
 
 // The kept committee of `round`.
 fn kept_at(kept: &[u64], round: Round) -> [Weight; 16]
-    requires { words_to round.0 ≤ length kept.now }
-    ensures { result ≡ weights_at kept.now (words_at 0 round.0) }
+    requires { words_to round ≤ length kept.now }
+    ensures { result ≡ weights_at kept.now (words_at 0 round) }
 {
     cache::weights_at(kept, round.0 as usize * cache::COMMITTEE + cache::ROUNDS)
 }
 
 // Keeps the committee of `round`.
 fn keep(weights: &[Weight; 16], round: Round, kept: &mut [u64])
-    requires { words_to round.0 ≤ length kept.old }
+    requires { words_to round ≤ length kept.old }
     ensures { (length weights.now ≡ 16)
-        × (kept.new ≡ paste kept.old (words_at 0 round.0) (numbers weights.now) 16) }
+        × (kept.new ≡ paste kept.old (words_at 0 round) (numbers weights.now) 16) }
 {
     cache::put_weights(
         weights,
@@ -58,9 +58,9 @@ fn renew_blocks(
     weights: &mut [Weight; 16],
     kept: &mut [u64],
 ) -> u32
-    requires { BlocksReady settings.now table.now leaders.now lows.now last.0 top.0 stop.0
+    requires { BlocksReady settings.now table.now leaders.now lows.now last top stop
         earlier blocks weights.old kept.old }
-    ensures { BlocksKept settings.now table.now leaders.now last.0 stop.0 earlier blocks kept.old
+    ensures { BlocksKept settings.now table.now leaders.now last stop earlier blocks kept.old
         result weights.new kept.new }
 {
     let mut count = earlier;
@@ -98,20 +98,20 @@ pub fn renew(
     blocks: u32,
     kept: &mut [u64],
 )
-    requires { RenewReady settings.now table.now leaders.now lows.now last.0 top.0
+    requires { RenewReady settings.now table.now leaders.now lows.now last top
         earlier blocks kept.old }
     ensures { let s = settings.now in
-        Caches s (chain_of s.ceiling.0 table.now blocks) (take (known_words s top.0) kept.new) }
+        Caches s (chain_of s.ceiling table.now blocks) (take (known_words s top) kept.new) }
 {
-    let ceiling = settings.ceiling.0;
-    if !is_full(kept, settings.ceiling) {
+    let ceiling = settings.ceiling;
+    if !is_full(kept, ceiling) {
         cache::fill_cache(Chain::new(table, settings, blocks), Round(0), kept);
         return;
     }
-    if ceiling <= settings.lookback || ceiling - settings.lookback <= last.0 + 1 {
+    if ceiling.0 <= settings.lookback || ceiling.0 - settings.lookback <= last.0 + 1 {
         return;
     }
-    let end = ceiling - settings.lookback;
+    let end = ceiling.0 - settings.lookback;
     let mut weights = kept_at(kept, Round(settings.lookback + last.0 + 1));
     let stop = top.0.min(end - 1);
     renew_blocks(

@@ -14,7 +14,7 @@ ghost use Rattle.owned.specs.Resuming.{Resumable};
 pub fn opened_resumes()
     ensures { (w t k : List ℕ) (own : ℕ) (sheet : List ℕ) (rights : ℕ)
         → (comes_to w t (opens own sheet rights)).refusal ≡ 0
-        → words_to (state_in (comes_to w t (opens own sheet rights)).state).settings.ceiling.0
+        → words_to (state_in (comes_to w t (opens own sheet rights)).state).settings.ceiling
         ≤ length k
         → Resumable (comes_to w t (opens own sheet rights)).state
         (comes_to w t (opens own sheet rights)).table k }
@@ -24,7 +24,7 @@ pub fn opened_resumes()
 #[tactic(auto, using(crate::proofs::ResumingLaws::owned_resumes))]
 pub fn owned_resumes()
     ensures { (w t k l : List ℕ) → Owned w t k
-        → words_to (state_in w).settings.ceiling.0 ≤ length l → Resumable w t l }
+        → words_to (state_in w).settings.ceiling ≤ length l → Resumable w t l }
 {}
 
 /// Every call and read but open and commit leaves owned words owned, accepted or refused, by whichever function it is made.

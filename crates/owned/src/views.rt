@@ -24,7 +24,7 @@ pub fn committee(
 ) -> Result<(), Refusal>
     requires { Owned state.now table.now kept.now }
     ensures { Done plain
-        (comes_to state.now table.now (aside (committee (record { 0 = round })) out.old))
+        (comes_to state.now table.now (aside (committee round) out.old))
         (refusal_in result) state.now table.now out.new }
 {
     let Some(s) = words::states::state(state) else {
@@ -49,7 +49,7 @@ pub fn share(
     requires { Owned state.now table.now kept.now }
     ensures { Done packed
         (comes_to state.now table.now
-        (aside (share (record { 0 = member }) (record { 0 = round })) []))
+        (aside (share (record { 0 = member }) round) []))
         (packed_in result) state.now table.now [] }
 {
     let Some(s) = words::states::state(state) else {
@@ -71,7 +71,7 @@ pub fn bond_effect(
     requires { Owned state.now table.now kept.now }
     ensures { Done plain
         (comes_to state.now table.now
-        (aside (effect (record { 0 = member }) (record { 0 = round }) amount) out.old))
+        (aside (effect (record { 0 = member }) round amount) out.old))
         (refusal_in result) state.now table.now out.new }
 {
     let Some(s) = words::states::state(state) else {
@@ -102,7 +102,7 @@ pub fn certificate(
     requires { Owned state.now table.now kept.now }
     ensures { Done plain
         (comes_to state.now table.now
-        (aside (certificate (record { 0 = author }) (record { 0 = round })) out.old))
+        (aside (certificate (record { 0 = author }) round) out.old))
         (refusal_in result) state.now table.now out.new }
 {
     let Some(s) = words::states::state(state) else {

@@ -1,6 +1,6 @@
 -- Every block holds certificates of rounds up to its own, in every engine that calls lead to.
 use Rattle.std.proofs.Common.{◌≡◌, sym, ap, ◌∙◌, subst, Bool, true, not, cond, ◌&&◌, true≢false, List, [], ◌∷◌, ℕ, ◌-◌, suc, ◌<◌, ◌≤◌, arith, Option, Some, None}
-use native.Mathlib.Decide.{dec_lt}
+use Rattle.base.proofs.Words.{dec_lt}
 use Rattle.agreement.specs.Rules.{Chain, last, Rules}
 use Rattle.agreement.specs.View.{View}
 use Rattle.agreement.specs.Dag.{is_held}
@@ -67,7 +67,7 @@ module _ (S : Settings) (k : ℕ) (s : MemberView S) (b : Below s.chain) where
 
 -- the chain of an engine
 abbrev pub chain_in : Engine → Chain Content
-chain_in e = chain_of e.state.settings.ceiling.0 e.table e.state.blocks
+chain_in e = chain_of e.state.settings.ceiling e.table e.state.blocks
 
 chain_by : (S : Settings) (x : Engine) (v : MemberView S) → view_at S x ≡ v → Below v.chain → Below (chain_in x)
 chain_by S x v e b = subst Below (sym (ap (λ (v : MemberView S). v.chain) e)) b

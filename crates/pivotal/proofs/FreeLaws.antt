@@ -1,6 +1,6 @@
 -- Above the last block's round no held certificate has a mark.
 use Rattle.std.proofs.Common.{◌≡◌, refl, ◌∙◌, true, List, ◌≢◌, ℕ, zero, suc, ◌<◌, ◌≤◌, arith, eq-eqb}
-use native.Mathlib.Decide.{ℕ_discrete}
+use Rattle.base.proofs.Words.{ℕ_discrete}
 use Rattle.agreement.specs.Dag.{is_held}
 use Rattle.store.specs.Table.{held_at, mark_at, block_round}
 use Rattle.scan.proofs.ScanLaws.{rows-held}
@@ -26,9 +26,9 @@ block-at n t (suc k) b j h l a q p = go (ℕ_discrete j (suc k)) (λ i. block-at
     go (yes e) f = rw e (b.0 a q (rw e at p))
     go (no d) f = f (omega arith)
 
-module _ (s : State) (t : List ℕ) (f : Formed s t) (b : Below (chain_of s.settings.ceiling.0 t s.blocks)) where
+module _ (s : State) (t : List ℕ) (f : Formed s t) (b : Below (chain_of s.settings.ceiling t s.blocks)) where
   abbrev n : ℕ
-  n = s.settings.ceiling.0
+  n = s.settings.ceiling
 
   pub free-above : (a q : ℕ) → held_at t a q ≡ true → last_round t s.blocks < q → q ≤ n → mark_at t a q ≡ 0
   free-above a q held above to = go (ℕ_discrete (mark_at t a q) 0)
@@ -51,5 +51,5 @@ module _ (s : State) (t : List ℕ) (f : Formed s t) (b : Below (chain_of s.sett
       go (no h) = absurd (omega (arith, marked h))
 
 -- so it is in every engine that calls lead to
-pub none_above : (e : Engine) → Reached e → (a q : ℕ) → held_at e.table a q ≡ true → last_round e.table e.state.blocks < q → q ≤ e.state.settings.ceiling.0 → mark_at e.table a q ≡ 0
+pub none_above : (e : Engine) → Reached e → (a q : ℕ) → held_at e.table a q ≡ true → last_round e.table e.state.blocks < q → q ≤ e.state.settings.ceiling → mark_at e.table a q ≡ 0
 none_above e r a q h above to = free-above e.state e.table (formed e.state e.table (reached_formed e r)) (reached-below r) a q h above to

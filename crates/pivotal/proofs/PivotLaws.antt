@@ -1,7 +1,6 @@
 -- Which places are critical in an engine that calls lead to, round by round; and the claim.
 use Rattle.std.proofs.Common.{◌≡◌, refl, sym, ap, ap₂, ◌∙◌, Bool, true, false, not, cond, ◌&&◌, true≢false, List, [], ◌∷◌, ◌++◌, inl, inr, ℕ, zero, suc, ◌-◌, ◌<◌, ◌≤◌, arith, eqb, leb, ltb, eq-eqb, ne_eqb, le-leb, lt-ltb, le-ltb}
-use native.Mathlib.Decide.{dec_lt, ℕ_discrete}
-use borrow.Author.Tests.{lt-leb}
+use Rattle.base.proofs.Words.{dec_lt, ℕ_discrete, lt-leb}
 use Rattle.base.proofs.SumLaws.{sum_same, sum_without}
 use Rattle.agreement.specs.Weights.{weigh, total}
 use Rattle.agreement.specs.Anchors.{votes}
@@ -21,9 +20,8 @@ use Rattle.votes.specs.Checks.{committee_on}
 use Rattle.votes.proofs.AnchorLaws.{leader_on}
 use Rattle.votes.proofs.CheckLaws.{anchor-led}
 use Rattle.critical.specs.Critical.{Place, is_critical, critical_at, critical_in, critical_places}
-use Rattle.critical.specs.Answers.{Weighs, Free}
-use Rattle.critical.specs.declared.Weighed.{Weighed}
-use Rattle.critical.proofs.LackLaws.{enough, leader-low, before-critical, now-critical, absent-critical}
+use Rattle.critical.specs.Answers.{Passes, Free}
+use Rattle.critical.proofs.LackLaws.{enough, leader-low, before-critical, now-critical, absent_critical}
 use Rattle.commit.proofs.CheckLaws.{Accepted, accepted}
 use Rattle.pivotal.specs.Pivotal.{unvoted_without, pivotal_votes, pivots, HangsOnPivots}
 use Rattle.pivotal.proofs.BelowLaws.{Below, reached-below}
@@ -51,9 +49,9 @@ weigh_without w f a h e =
     kept true k = refl
     kept false k = refl
 
-module _ (s : State) (t : List ℕ) (y : Accepted s t) (b : Below (chain_of s.settings.ceiling.0 t s.blocks)) where
+module _ (s : State) (t : List ℕ) (y : Accepted s t) (b : Below (chain_of s.settings.ceiling t s.blocks)) where
   abbrev r : ℕ
-  r = s.round.0
+  r = s.round
 
   abbrev lead : ℕ
   lead = leader_on s t (r - 1)
@@ -64,11 +62,8 @@ module _ (s : State) (t : List ℕ) (y : Accepted s t) (b : Below (chain_of s.se
   abbrev x : Content
   x = content_at t lead (r - 1)
 
-  abbrev weighed : Weighed
-  weighed = record { leader = record { 0 = lead }; weights = w; bound = record { 0 = bound_of s.settings.margin (total 16 (weight_in w)) }; votes = record { 0 = votes_for t w r lead } }
-
-  weighs : Weighs s t weighed
-  weighs = record { timely = record { formed = y.formed; in_time = y.in_time }; voted = y.voted; its_leader = refl; its_weights = refl; its_bound = refl; its_votes = refl }
+  passes : Passes s t
+  passes = record { timely = record { formed = y.formed; in_time = y.in_time }; voted = y.voted }
 
   above : suc (r - 1) ≡ r
   above = omega (arith, y.timely.from)
@@ -85,8 +80,8 @@ module _ (s : State) (t : List ℕ) (y : Accepted s t) (b : Below (chain_of s.se
   before a m = go (held_at t a (r - 1)) refl
     where
       go : (h : Bool) → held_at t a (r - 1) ≡ h → is_critical s t a (r - 1) ≡ eqb a lead
-      go true h = before-critical weighs (record { member = m; near = inr refl }) (free a (r - 1) h (omega arith) (omega arith)) (λ e. omega (arith, y.timely.from))
-      go false h = absent-critical s t a (r - 1) h ∙ sym (ne_eqb a lead (λ e. true≢false (sym y.led ∙ sym (held_in t lead (r - 1)) ∙ rw e at h)))
+      go true h = before-critical passes (record { member = m; near = inr refl }) (free a (r - 1) h (omega arith) (omega arith)) (λ e. omega (arith, y.timely.from))
+      go false h = absent_critical s t a (r - 1) h ∙ sym (ne_eqb a lead (λ e. true≢false (sym y.led ∙ sym (held_in t lead (r - 1)) ∙ rw e at h)))
 
   abbrev anchor : Place
   anchor = record { round = r - 1; author = lead }
@@ -107,7 +102,7 @@ module _ (s : State) (t : List ℕ) (y : Accepted s t) (b : Below (chain_of s.se
 
   votes-at : (a : ℕ) → votes (view s t) x a ≡ votes_at t r lead a
   unfolding votes_at
-  votes-at a = rw (content-author t lead (r - 1), content-round t lead (r - 1), above) (vote-dag s.settings.ceiling.0 t a r (omega (arith, y.timely.from)) y.formed.numbers.round_to s.settings lead)
+  votes-at a = rw (content-author t lead (r - 1), content-round t lead (r - 1), above) (vote-dag s.settings.ceiling t a r (omega (arith, y.timely.from)) y.formed.numbers.round_to s.settings lead)
 
   votes-absent : (a : ℕ) → held_at t a r ≡ false → votes_at t r lead a ≡ false
   unfolding votes_at
@@ -134,12 +129,12 @@ module _ (s : State) (t : List ℕ) (y : Accepted s t) (b : Below (chain_of s.se
     where
       go : (h : Bool) → held_at t a r ≡ h → (v : Bool) → votes_at t r lead a ≡ v → is_critical s t a r ≡ (v && unvoted_without s.settings (view s t) x a)
       go true h true e =
-          now-critical weighs (record { member = m; near = inl refl }) (free a r h (omega arith) (omega arith)) refl (weight_in w a) (rw e refl) ∙ sym (unvoted_so a m e)
+          now-critical passes (record { member = m; near = inl refl }) (free a r h (omega arith) (omega arith)) refl (weight_in w a) (rw e refl) ∙ sym (unvoted_so a m e)
       go true h false e =
-          now-critical weighs (record { member = m; near = inl refl }) (free a r h (omega arith) (omega arith)) refl 0 (rw e refl)
-          ∙ lt-leb (votes_for t w r lead - 0) (bound_of s.settings.margin (total 16 (weight_in w))) (omega (arith, enough weighs))
+          now-critical passes (record { member = m; near = inl refl }) (free a r h (omega arith) (omega arith)) refl 0 (rw e refl)
+          ∙ lt-leb (votes_for t w r lead - 0) (bound_of s.settings.margin (total 16 (weight_in w))) (omega (arith, enough passes))
       go false h true e = absurd (true≢false (sym e ∙ votes-absent a h))
-      go false h false e = absent-critical s t a r h
+      go false h false e = absent_critical s t a r h
 
   row_now : (n : ℕ) → n ≤ 16 → critical_in s t r n ≡ pivotal_votes s.settings (view s t) x n
   unfolding critical_in critical_at pivotal_votes
@@ -150,7 +145,7 @@ module _ (s : State) (t : List ℕ) (y : Accepted s t) (b : Below (chain_of s.se
 
   pub hangs : critical_places s t ≡ pivots s.settings (view s t) x
   unfolding critical_places
-  hangs = rw (row_before 16 (omega arith), row_now 16 (omega arith), lt-ltb lead 16 (leader-low weighs), content-round t lead (r - 1), content-author t lead (r - 1)) refl
+  hangs = rw (row_before 16 (omega arith), row_now 16 (omega arith), lt-ltb lead 16 (leader-low passes), content-round t lead (r - 1), content-author t lead (r - 1)) refl
 
 -- of every engine that calls lead to, where a commit would be accepted
 pub commits_hang_on_pivots : (e : Engine) → Reached e → refusal_for e commit ≡ 0 → HangsOnPivots e

@@ -1,8 +1,6 @@
 -- The list of what a commit hangs on does not change with the words of ports.
 use Rattle.std.proofs.Common.{◌≡◌, refl, sym, ap, ◌∙◌, List, ℕ, zero, suc, ◌-◌, ◌*◌, ◌<◌, ◌≤◌, arith, length, get_or, set, length-set, get_or-set_same, get_or-set_other}
-use native.Mathlib.Decide.{ℕ_discrete, dec_lt}
-use lib.ListN.{get_or-eq_default}
-use lib.Seq.{paste}
+use Rattle.base.proofs.Words.{ℕ_discrete, dec_lt, get_or-eq_default, paste}
 use Rattle.base.specs.Checks.{refusal}
 use Rattle.base.specs.Sets.{remove}
 use Rattle.base.proofs.PasteLaws.{paste-below}
@@ -63,7 +61,7 @@ module _ (t : List ℕ) (row : Row t 0) (g : ℕ) (guest : g < 8) (w : List ℕ)
 
     places_same : critical_places s u ≡ critical_places s t
     unfolding critical_places
-    places_same = rw (row_same (s.round.0 - 1) 16, row_same s.round.0 16) refl
+    places_same = rw (row_same (s.round - 1) 16, row_same s.round 16) refl
 
 -- so the list is the same whatever the words of a port are
 pub ports_not_counted : (e : Engine) → Row e.table 0 → (g : ℕ) → g < port_count → (w : List ℕ) → length w ≡ port_length

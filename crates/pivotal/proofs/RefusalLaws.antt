@@ -1,6 +1,6 @@
 -- A commit without a certificate is refused as the list has it; the list is refused as a commit is; and 32 places are enough for it.
 use Rattle.std.proofs.Common.{◌≡◌, refl, sym, ◌∙◌, Bool, true, false, cond, List, [], ◌∷◌, ℕ, zero, suc, ◌-◌, ◌/◌, ◌≤◌, arith, length, length-append, le-ltb}
-use mathlib.Core.Bool.{false≢true}
+use Rattle.base.proofs.Words.{false≢true}
 use Rattle.base.proofs.CheckLaws.{refuses, passes}
 use Rattle.state.specs.declared.State.{State}
 use Rattle.store.specs.Writes.{clear_held}
@@ -31,7 +31,7 @@ unformed s t p = go (well_formed s t) refl
     go false e = refl
 
 -- on a well-formed state without the certificate a commit is refused with the number that the list goes by, so check 1 need not be asked again; but with 1 where a serial port stands at what is absent, and the list does not count that
-pub absent_as_commit : (e : Engine) → well_formed e.state e.table ≡ true → (a q : ℕ) → a < 16 → 0 < q → q ≤ e.state.settings.ceiling.0
+pub absent_as_commit : (e : Engine) → well_formed e.state e.table ≡ true → (a q : ℕ) → a < 16 → 0 < q → q ≤ e.state.settings.ceiling
     → refusal_for (record { state = e.state; table = clear_held e.table a q }) commit ≡ cond (ports_fit e.state.settings (clear_held e.table a q) e.state.blocks) (refusal_without e.state e.table a q) 1
 unfolding refusal_without
 absent_as_commit e h a q m from to = go (ports_fit s.settings u s.blocks) refl
@@ -62,4 +62,4 @@ unfolding critical_places
 room_for_critical e =
     let s = e.state in
     let t = e.table in
-    omega (arith, row-few s t (s.round.0 - 1) 16, row-few s t s.round.0 16, length-append (critical_in s t (s.round.0 - 1) 16) (critical_in s t s.round.0 16))
+    omega (arith, row-few s t (s.round - 1) 16, row-few s t s.round 16, length-append (critical_in s t (s.round - 1) 16) (critical_in s t s.round 16))

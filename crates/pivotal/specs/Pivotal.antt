@@ -38,6 +38,6 @@ module _ (S : Settings) (s : MemberView S) (x : Content) where
 -- the anchor of the round before is held, and the critical places are these and no other
 pub record HangsOnPivots (e : Engine) : Type 0 where
   pub anchor : Content
-  pub is_anchor : anchor_at (view_at e.state.settings e) (e.state.round.0 - 1) ≡ Some anchor
+  pub is_anchor : anchor_at (view_at e.state.settings e) (e.state.round - 1) ≡ Some anchor
   pub exactly : critical_places e.state e.table
       ≡ pivots e.state.settings (view_at e.state.settings e) anchor

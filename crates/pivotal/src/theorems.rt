@@ -22,7 +22,7 @@ pub fn commits_hang_on_pivots()
 /// In every engine that calls lead to no held certificate of a round above the last block's is in a block.
 pub fn none_above()
     ensures { (e : Engine) → Reached e → (a q : ℕ) → held_at e.table a q ≡ true
-        → last_round e.table e.state.blocks < q → q ≤ e.state.settings.ceiling.0
+        → last_round e.table e.state.blocks < q → q ≤ e.state.settings.ceiling
         → mark_at e.table a q ≡ 0 }
 {}
 
@@ -30,7 +30,7 @@ pub fn none_above()
 #[tactic(auto, using(crate::proofs::RefusalLaws::absent_as_commit))]
 pub fn absent_as_commit()
     ensures { (e : Engine) → well_formed e.state e.table ≡ true → (a q : ℕ) → a < 16 → 0 < q
-        → q ≤ e.state.settings.ceiling.0
+        → q ≤ e.state.settings.ceiling
         → refusal_for (record { state = e.state; table = clear_held e.table a q }) commit
         ≡ (if ports_fit e.state.settings (clear_held e.table a q) e.state.blocks
         then refusal_without e.state e.table a q else 1) }

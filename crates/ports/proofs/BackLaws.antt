@@ -1,8 +1,7 @@
 -- Where a reader stands after n bytes tells that it has read n.
 use Rattle.std.proofs.Common.{◌≡◌, refl, sym, ap, ◌∙◌, Bool, true, false, cond, ◌&&◌, List, [], ◌∷◌, ◌≢◌, ℕ, ◌-◌, ◌<◌, ◌≤◌, arith, length, length-append, eqb, eq-eqb, ne_eqb, le-leb, Some, None}
 use Rattle.std.proofs.lemmas.Option.{none-some}
-use native.Mathlib.Decide.{ℕ_discrete, dec_lt}
-use borrow.Author.Tests.{lt-leb}
+use Rattle.base.proofs.Words.{ℕ_discrete, dec_lt, lt-leb}
 use Rattle.ports.specs.Cursors.{Lines, text, line_of, Once, read_to, bytes_read, cursor_of}
 use Rattle.ports.proofs.NextLaws.{line-here, line_else}
 

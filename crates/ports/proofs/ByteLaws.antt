@@ -1,6 +1,6 @@
 -- The next byte of a port: the next one of its line, or the first of the next line, or none.
 use Rattle.std.proofs.Common.{◌≡◌, refl, sym, ap, ◌∙◌, Bool, true, false, cond, ◌&&◌, List, [], ◌∷◌, ◌++◌, ◌≢◌, ℕ, suc, ◌+◌, ◌/◌, ◌%◌, ◌<◌, ◌≤◌, arith, length, length-append, get_or, eqb, leb, eq-eqb, ne_eqb, leb-true, le-leb, Option, Some, None}
-use lib.ListN.{get_or-append}
+use Rattle.base.proofs.Words.{get_or-append}
 use Rattle.base.proofs.Bools.{both}
 use Rattle.terms.specs.declared.sheet.Settings.{Settings}
 use Rattle.committee.specs.Chain.{chain_of}
@@ -10,7 +10,7 @@ use Rattle.ports.specs.Cursors.{Lines, text, line_of, lines_after, in_line, read
 use Rattle.ports.specs.Places.{line_at}
 use Rattle.ports.specs.Next.{first_place, lines_from, LinePlace}
 use Rattle.ports.proofs.CursorLaws.{here-fits, same_line, next-line}
-use Rattle.ports.proofs.PlaceLaws.{text-lines}
+use Rattle.ports.proofs.PlaceLaws.{text_lines}
 use Rattle.ports.proofs.OnceLaws.{once-chain}
 use Rattle.ports.proofs.NextLaws.{line-here, read_first, follows, line-follows, cursor-back}
 use Rattle.ports.specs.Ports.{listing_of, placed_lines, is_listed, cursor_fits}
@@ -37,7 +37,7 @@ module _ (S : Settings) (t : List ℕ) (blocks p j : ℕ) where
   lines = placed_lines S t blocks
 
   abbrev n : ℕ
-  n = S.ceiling.0
+  n = S.ceiling
 
   abbrev read : ℕ
   read = bytes_read lines p j
@@ -55,7 +55,7 @@ module _ (S : Settings) (t : List ℕ) (blocks p j : ℕ) where
   -- a byte of a line is one of the listing
   within : (q i : ℕ) → is_listed t n blocks q ≡ true → 1 ≤ i → i ≤ length (line_in q) → read_to lines q i ≤ length (listing_of S t blocks)
   within q i h a b =
-      rw (← text-lines S (chain_of n t blocks))
+      rw (← text_lines S (chain_of n t blocks))
       (leb-true (read_to lines q i) (length (text lines)) (here-fits lines q i (line_in q) (line-listed S t blocks q h) ∙ rw (le-leb 1 i a, le-leb i (length (line_in q)) b) refl))
 
   -- where it is the next one
@@ -66,7 +66,7 @@ module _ (S : Settings) (t : List ℕ) (blocks p j : ℕ) where
       let z : bytes_read lines q i ≡ read_to lines q i = read_by q i u in
       record {
         waiting = omega (arith, e, w);
-        byte = rw (← text-lines S (chain_of n t blocks)) f;
+        byte = rw (← text_lines S (chain_of n t blocks)) f;
         then = z ∙ e;
         cursor = ap (cursor_of lines) (sym e) ∙ cursor-back lines q i (line_in q) (line-listed S t blocks q h) u v;
       }
@@ -130,7 +130,7 @@ module _ (S : Settings) (t : List ℕ) (blocks p j : ℕ) where
         let l = line-listed S t blocks p here in
         let z : j ≡ length (line_in p) = omega (arith, to) in
         let g = next-line lines p (line_in p) l (line_long t (p % 16) (p / 16)) in
-        rw (read_is j, z, ← text-lines S (chain_of n t blocks)) (omega (arith, g.0 ∙ ap (λ (y : Lines). read_to lines p (length (line_in p)) + length (text y)) x, no_text))
+        rw (read_is j, z, ← text_lines S (chain_of n t blocks)) (omega (arith, g.0 ∙ ap (λ (y : Lines). read_to lines p (length (line_in p)) + length (text y)) x, no_text))
 
   -- ---- after the last byte of a line, or before the first: what the search for the next line tells
 
@@ -160,7 +160,7 @@ module _ (S : Settings) (t : List ℕ) (blocks p j : ℕ) where
       none_read = start fits z
 
       go : (l : Lines) → lines ≡ l → NextLine (first_place l)
-      go [] x = none_read ∙ sym (ap length (sym (text-lines S (chain_of n t blocks)) ∙ ap text x) ∙ no_text)
+      go [] x = none_read ∙ sym (ap length (sym (text_lines S (chain_of n t blocks)) ∙ ap text x) ∙ no_text)
       go (e ∷ m) x =
           let y = listed-line S t blocks e.0 e.1 (ap (λ (l : Lines). line_of l e.0) x ∙ line-here e m) in
           let b = line_long t (e.0 % 16) (e.0 / 16) in

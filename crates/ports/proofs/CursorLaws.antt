@@ -1,8 +1,7 @@
 -- Laws of where a port stands: its two words alone tell whether it has read past the end, and the byte after those read is the next one of its line or the first of the next line.
 use Rattle.std.proofs.Common.{◌≡◌, refl, sym, ap, ◌∙◌, Bool, true, false, cond, true≢false, List, [], ◌∷◌, ◌++◌, ℕ, suc, ◌+◌, ◌<◌, ◌≤◌, arith, eqb, leb, length, get_or, length-append, get_or-append-add, le-leb, leb-true, Some, None}
 use Rattle.std.proofs.lemmas.Option.{same_Some, none-some}
-use lib.ListN.{get_or-append}
-use borrow.Author.Tests.{lt-leb}
+use Rattle.base.proofs.Words.{get_or-append, lt-leb}
 use Rattle.base.proofs.Bools.{both}
 use Rattle.ports.specs.Cursors.{Lines, text, line_of, lines_after, in_line, read_to}
 

@@ -1,7 +1,7 @@
 -- Two words alone tell whether a port has read past the listing's end.
 use Rattle.std.proofs.Common.{◌≡◌, refl, sym, ap, ◌∙◌, Bool, true, false, cond, ◌&&◌, true≢false, List, ℕ, ◌+◌, ◌*◌, ◌/◌, ◌%◌, arith, length, get_or, eqb, leb, ltb, eq-eqb, ne_eqb, leb-true, ltb-true, le-leb, lt-ltb, Some, None}
 use Rattle.std.proofs.lemmas.Option.{same_Some, none-some}
-use native.Mathlib.Decide.{ℕ_discrete}
+use Rattle.base.proofs.Words.{ℕ_discrete}
 use Rattle.base.specs.Folds.{all_to}
 use Rattle.base.proofs.Bools.{both}
 use Rattle.terms.specs.declared.sheet.Settings.{Settings}
@@ -11,7 +11,7 @@ use Rattle.ports.specs.Cursors.{text, line_of, in_line, read_to, bytes_read}
 use Rattle.ports.specs.Places.{line_at}
 use Rattle.ports.specs.Next.{LinePlace}
 use Rattle.ports.proofs.CursorLaws.{here-fits, nowhere_fits}
-use Rattle.ports.proofs.PlaceLaws.{text-lines}
+use Rattle.ports.proofs.PlaceLaws.{text_lines}
 use Rattle.ports.proofs.LineLaws.{Listed, listed, unlisted}
 use Rattle.ports.proofs.OnceLaws.{by_place}
 use Rattle.ports.specs.Uart.{limits, registers_fit}
@@ -35,7 +35,7 @@ listed_place t n blocks p e =
 
 module _ (S : Settings) (t : List ℕ) (blocks : ℕ) where
   abbrev n : ℕ
-  n = S.ceiling.0
+  n = S.ceiling
 
   -- the test of a place
   pub is-listed : (p : ℕ) → is_listed t n blocks p ≡ true → Listed S t blocks (p % 16) (p / 16)
@@ -72,7 +72,7 @@ module _ (S : Settings) (t : List ℕ) (blocks : ℕ) where
 
   -- past the end or not, where something was read: the rules' words, and the test
   read_fits : (p j : ℕ) → leb (read_to (placed_lines S t blocks) p j) (length (listing_of S t blocks)) ≡ (is_listed t n blocks p && in_line j (length (line_at t (p % 16) (p / 16))))
-  read_fits p j = rw (← text-lines S (chain_of n t blocks)) (go (is_listed t n blocks p) refl)
+  read_fits p j = rw (← text_lines S (chain_of n t blocks)) (go (is_listed t n blocks p) refl)
     where
       go : (b : Bool) → is_listed t n blocks p ≡ b → leb (read_to (placed_lines S t blocks) p j) (length (text (placed_lines S t blocks))) ≡ (b && in_line j (length (line_at t (p % 16) (p / 16))))
       go true e = here-fits (placed_lines S t blocks) p j (line_at t (p % 16) (p / 16)) (line-listed p e)

@@ -1,6 +1,6 @@
 -- A port is as it was where its words are, and the listing has but more lines at its end.
 use Rattle.std.proofs.Common.{◌≡◌, refl, true, cond, ◌&&◌, List, ◌++◌, ℕ, ◌/◌, ◌%◌, ◌<◌, arith, eqb, length, eq-eqb, ne_eqb}
-use native.Mathlib.Decide.{ℕ_discrete}
+use Rattle.base.proofs.Words.{ℕ_discrete}
 use Rattle.base.proofs.Bools.{both}
 use Rattle.terms.specs.declared.sheet.Settings.{Settings}
 use Rattle.ports.specs.Cursors.{Lines, in_line, read_to, bytes_read}
@@ -24,11 +24,11 @@ module _ (S : Settings) (t : List ℕ) (blocks g : ℕ) (x : FormedPort S t bloc
   unfolding bytes_read cursor_fits
   read-grown = go (ℕ_discrete p 0) (cursor S t blocks g x)
     where
-      go : Dec (p ≡ 0) → cond (eqb p 0) (eqb j 0) (is_listed t S.ceiling.0 blocks p && in_line j (length (line_at t (p % 16) (p / 16)))) ≡ true
+      go : Dec (p ≡ 0) → cond (eqb p 0) (eqb j 0) (is_listed t S.ceiling blocks p && in_line j (length (line_at t (p % 16) (p / 16)))) ≡ true
           → cond (eqb p 0 && eqb j 0) 0 (read_to (lines ++ more) p j) ≡ cond (eqb p 0 && eqb j 0) 0 (read_to lines p j)
       go (yes e) f = let k : eqb j 0 ≡ true = rw (eq-eqb p 0 e) at f in rw (eq-eqb p 0 e, k) refl
       go (no n) f =
-          let b = both (is_listed t S.ceiling.0 blocks p) _ (rw (ne_eqb p 0 n) at f) in
+          let b = both (is_listed t S.ceiling blocks p) _ (rw (ne_eqb p 0 n) at f) in
           rw (ne_eqb p 0 n) (read-grows lines more p j (line_at t (p % 16) (p / 16)) (line-listed S t blocks p b.0) b.1).0
 
   pub port-grown : (u : List ℕ) (c : ℕ) → ((i : ℕ) → i < 8 → port_word u g i ≡ port_word t g i) → placed_lines S u c ≡ lines ++ more → port_in S u c g ≡ port_in S t blocks g

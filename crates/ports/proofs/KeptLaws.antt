@@ -1,6 +1,6 @@
 -- Ports stay well formed where their words stay, and the lines of certificates in blocks; and where all their words are 0.
 use Rattle.std.proofs.Common.{◌≡◌, refl, sym, ◌∙◌, true, cond, ◌&&◌, List, ℕ, ◌+◌, ◌*◌, ◌/◌, ◌%◌, ◌<◌, arith, length, get_or, eqb, leb, eq-eqb, ne_eqb, le-leb, lt-ltb}
-use native.Mathlib.Decide.{ℕ_discrete}
+use Rattle.base.proofs.Words.{ℕ_discrete}
 use Rattle.base.specs.Folds.{all_to}
 use Rattle.base.proofs.Bools.{both}
 use Rattle.base.proofs.TestLaws.{all-at, all_hold, all_same}
@@ -35,9 +35,9 @@ unfolding is_listed
 place-listed t n k p x =
     rw (le-leb 16 p x.from, lt-ltb p (n * 16 + 16) x.to, x.held, le-leb 1 (mark_at t (p % 16) (p / 16)) x.mark_from, le-leb (mark_at t (p % 16) (p / 16)) k x.mark_to) refl
 
-module _ (S : Settings) (t u : List ℕ) (k c : ℕ) (x : PortsKept t u S.ceiling.0 k c) where
+module _ (S : Settings) (t u : List ℕ) (k c : ℕ) (x : PortsKept t u S.ceiling k c) where
   abbrev n : ℕ
-  n = S.ceiling.0
+  n = S.ceiling
 
   cursor-kept : (p j : ℕ) → cursor_fits t n k p j ≡ true → cursor_fits u n c p j ≡ true
   unfolding cursor_fits

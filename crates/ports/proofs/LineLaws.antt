@@ -1,7 +1,7 @@
 -- The line of each place of a table: that of a held certificate in a block, and none else.
 use Rattle.std.proofs.Common.{◌≡◌, refl, sym, ap, ◌∙◌, Bool, true, false, cond, List, [], ◌∷◌, ◌++◌, ◌≢◌, ℕ, zero, suc, ◌+◌, ◌-◌, ◌*◌, ◌/◌, ◌<◌, ◌≤◌, arith, length, eqb, eqb-true, Some, None}
 use Rattle.std.proofs.lemmas.Option.{none-some}
-use native.Mathlib.Decide.{ℕ_discrete}
+use Rattle.base.proofs.Words.{ℕ_discrete}
 use Rattle.terms.specs.declared.sheet.Settings.{Settings}
 use Rattle.store.specs.Table.{held_at, mark_at, content_at, certificate_at, block_round}
 use Rattle.store.proofs.TableLaws.{content-author, content-round}
@@ -85,23 +85,23 @@ none-there p = refl
 
 module _ (S : Settings) (t : List ℕ) where
   abbrev chain : ℕ → Lines
-  chain k = lines_of S (chain_of S.ceiling.0 t k)
+  chain k = lines_of S (chain_of S.ceiling t k)
 
   -- where the rows of the block after the first k start
   abbrev pub start_after : ℕ → ℕ
-  start_after k = start_of S (block_at S.ceiling.0 t (suc k)) (chain_of S.ceiling.0 t k)
+  start_after k = start_of S (block_at S.ceiling t (suc k)) (chain_of S.ceiling t k)
 
   abbrev pub places_of : ℕ → Lines
-  places_of k = block_places t S.ceiling.0 (suc k) (start_after k)
+  places_of k = block_places t S.ceiling (suc k) (start_after k)
 
   pub lines_none : chain 0 ≡ []
   unfolding lines_of
-  lines_none = rw (chain-none S.ceiling.0 t) refl
+  lines_none = rw (chain-none S.ceiling t) refl
 
   -- a block's lines by keys
-  block-keys : (k : ℕ) → let b = block_at S.ceiling.0 t (suc k) in let c = chain_of S.ceiling.0 t k in content_places (length c + 1) b.round (ordered S b c) ≡ places_of k
+  block-keys : (k : ℕ) → let b = block_at S.ceiling t (suc k) in let c = chain_of S.ceiling t k in content_places (length c + 1) b.round (ordered S b c) ≡ places_of k
   block-keys k =
-      let n = S.ceiling.0 in
+      let n = S.ceiling in
       let b = block_at n t (suc k) in
       let c = chain_of n t k in
       let z : length c + 1 ≡ suc k = omega (arith, chain_length n t k) in
@@ -110,18 +110,18 @@ module _ (S : Settings) (t : List ℕ) where
       ∙ ap (content_places (suc k) (block_round t (suc k))) (ordered-rows S b c)
       ∙ rows-keys t n (suc k) (start_after k) n (omega arith)
 
-  lines-on : (k : ℕ) → lines_of S (block_at S.ceiling.0 t (suc k) ∷ chain_of S.ceiling.0 t k) ≡ chain k ++ places_of k
+  lines-on : (k : ℕ) → lines_of S (block_at S.ceiling t (suc k) ∷ chain_of S.ceiling t k) ≡ chain k ++ places_of k
   unfolding lines_of
   lines-on k = ap (λ (l : Lines). chain k ++ l) (block-keys k)
 
   pub lines_more : (k : ℕ) → chain (suc k) ≡ chain k ++ places_of k
-  lines_more k = ap (lines_of S) (chain_more S.ceiling.0 t k) ∙ lines-on k
+  lines_more k = ap (lines_of S) (chain_more S.ceiling t k) ∙ lines-on k
 
   -- a place of the listing
   pub record Listed (k m r : ℕ) : Type 0 where
     pub member : m < 16
     pub from : 1 ≤ r
-    pub to : r ≤ S.ceiling.0
+    pub to : r ≤ S.ceiling
     pub held : held_at t m r ≡ true
     pub mark_from : 1 ≤ mark_at t m r
     pub mark_to : mark_at t m r ≤ k
@@ -131,12 +131,12 @@ module _ (S : Settings) (t : List ℕ) where
   unlisted (suc k) m r l f =
       ap (λ (x : Lines). line_of x (r * 16 + m)) (lines_more k)
       ∙ (line-right (chain k) (places_of k) (r * 16 + m) (unlisted k m r l (λ x. f (record { member = l; from = x.from; to = x.to; held = x.held; mark_from = x.mark_from; mark_to = omega (arith, x.mark_to) })))).0
-      ∙ block-unlisted t S.ceiling.0 (suc k) (start_after k) m r l (λ from to h e. f (record { member = l; from = from; to = to; held = h; mark_from = omega arith; mark_to = omega arith }))
+      ∙ block-unlisted t S.ceiling (suc k) (start_after k) m r l (λ from to h e. f (record { member = l; from = from; to = to; held = h; mark_from = omega arith; mark_to = omega arith }))
 
   pub listed : (k m r : ℕ) → Listed k m r → line_of (chain k) (r * 16 + m) ≡ Some (line_at t m r)
   listed zero m r x = absurd (omega (arith, x.mark_from, x.mark_to))
   listed (suc k) m r x = ap (λ (l : Lines). line_of l (r * 16 + m)) (lines_more k) ∙ go (ℕ_discrete (mark_at t m r) (suc k)) (λ h. listed k m r (record { member = x.member; from = x.from; to = x.to; held = x.held; mark_from = x.mark_from; mark_to = h }))
     where
       go : Dec (mark_at t m r ≡ suc k) → (mark_at t m r ≤ k → line_of (chain k) (r * 16 + m) ≡ Some (line_at t m r)) → line_of (chain k ++ places_of k) (r * 16 + m) ≡ Some (line_at t m r)
-      go (yes e) f = (line-right (chain k) (places_of k) (r * 16 + m) (unlisted k m r x.member (λ y. absurd (omega (arith, y.mark_to))))).0 ∙ (block_listed t S.ceiling.0 (suc k) (start_after k) m r x.member x.from x.to x.held e).0
+      go (yes e) f = (line-right (chain k) (places_of k) (r * 16 + m) (unlisted k m r x.member (λ y. absurd (omega (arith, y.mark_to))))).0 ∙ (block_listed t S.ceiling (suc k) (start_after k) m r x.member x.from x.to x.held e).0
       go (no d) f = line-left (chain k) (places_of k) (r * 16 + m) (line_at t m r) (f (omega (arith, x.mark_to)))

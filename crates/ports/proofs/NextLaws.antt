@@ -1,8 +1,7 @@
 -- The line after the one that a reader has come to the end of: lists alone.
 use Rattle.std.proofs.Common.{◌≡◌, refl, sym, ap, ◌∙◌, Bool, true, false, cond, List, [], ◌∷◌, ◌++◌, ◌≢◌, ℕ, suc, ◌+◌, ◌-◌, ◌<◌, ◌≤◌, arith, length, length-append, eqb, eq-eqb, ne_eqb, le-leb, Some, None}
 use Rattle.std.proofs.lemmas.Option.{same_Some, none-some}
-use native.Mathlib.Decide.{ℕ_discrete, dec_lt}
-use borrow.Author.Tests.{lt-leb}
+use Rattle.base.proofs.Words.{ℕ_discrete, dec_lt, lt-leb}
 use Rattle.ports.specs.Cursors.{Lines, text, line_of, lines_after, Once, read_to, cursor_of}
 
 -- no line comes again after a place's

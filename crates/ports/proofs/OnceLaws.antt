@@ -1,8 +1,7 @@
 -- No place of a listing has two lines; and the lines after a place's: those of the later keys of its block, and of the later blocks.
 use Rattle.std.proofs.Common.{◌≡◌, refl, sym, ap, ◌∙◌, Bool, true, false, List, [], ◌++◌, append_assoc, append-nil, ℕ, zero, suc, ◌+◌, ◌-◌, ◌*◌, ◌/◌, ◌%◌, ◌<◌, ◌≤◌, arith, Option, Some, None}
-use mathlib.Core.Bool.{false≢true}
+use Rattle.base.proofs.Words.{false≢true, ℕ_discrete, dec_lt}
 use Rattle.std.proofs.lemmas.Option.{none-some}
-use native.Mathlib.Decide.{ℕ_discrete, dec_lt}
 use Rattle.terms.specs.declared.sheet.Settings.{Settings}
 use Rattle.store.specs.Table.{held_at, mark_at}
 use Rattle.committee.specs.Chain.{chain_of}
@@ -66,11 +65,11 @@ module _ (t : List ℕ) (n k a : ℕ) where
 
 module _ (S : Settings) (t : List ℕ) where
   abbrev chain : ℕ → Lines
-  chain k = lines_of S (chain_of S.ceiling.0 t k)
+  chain k = lines_of S (chain_of S.ceiling t k)
 
   -- a place of the first k blocks is not of the next one
   not_next : (k p : ℕ) (w : List ℕ) → line_of (chain k) p ≡ Some w → line_of (places_of S t k) p ≡ None
-  not_next k p w h = none_in_block t S.ceiling.0 (suc k) (start_after S t k) p λ x.
+  not_next k p w h = none_in_block t S.ceiling (suc k) (start_after S t k) p λ x.
       none-some w (sym (rw (by_place p) at (unlisted S t k (p % 16) (p / 16) (omega arith) (λ y. absurd (omega (arith, y.mark_to, x.mark))))) ∙ h)
 
   single_chain : (k : ℕ) → Single (chain k)
@@ -87,7 +86,7 @@ module _ (S : Settings) (t : List ℕ) where
       go (Some v) e f = ap (λ (l : Lines). line_of l p) (after-left (chain k) (places_of S t k) p v e) ∙ (line-right (lines_after (chain k) p) (places_of S t k) p (f v e)).0 ∙ not_next k p v e
       go None e f =
           let x = line-right (chain k) (places_of S t k) p e in
-          ap (λ (l : Lines). line_of l p) x.1 ∙ single_block t S.ceiling.0 (suc k) (start_after S t k) p w (sym x.0 ∙ h')
+          ap (λ (l : Lines). line_of l p) x.1 ∙ single_block t S.ceiling (suc k) (start_after S t k) p w (sym x.0 ∙ h')
 
   pub once-chain : (k : ℕ) → Once (chain k)
   once-chain k = once (chain k) (single_chain k)
@@ -105,11 +104,11 @@ module _ (S : Settings) (t : List ℕ) where
       ap chain z ∙ lines_more S t (k + d) ∙ rw (chain-later k d) (append_assoc (chain k) (later_blocks k d) (places_of S t (k + d)))
 
   -- the lines after that of a place of block k + 1, where there are k + 1 + d blocks
-  pub after-place : (k d p : ℕ) → InBlock t S.ceiling.0 (suc k) (p % 16) (p / 16)
-      → lines_after (chain (suc k + d)) p ≡ later_keys t S.ceiling.0 (suc k) (start_after S t k) p ++ later_blocks (suc k) d
+  pub after-place : (k d p : ℕ) → InBlock t S.ceiling (suc k) (p % 16) (p / 16)
+      → lines_after (chain (suc k + d)) p ≡ later_keys t S.ceiling (suc k) (start_after S t k) p ++ later_blocks (suc k) d
   after-place k d p x =
       let w = line_at t (p % 16) (p / 16) in
-      let b = after_in_block t S.ceiling.0 (suc k) (start_after S t k) p x in
+      let b = after_in_block t S.ceiling (suc k) (start_after S t k) p x in
       let n : line_of (chain k) p ≡ None = rw (by_place p) at (unlisted S t k (p % 16) (p / 16) (omega arith) (λ y. absurd (omega (arith, y.mark_to, x.mark)))) in
       let r = line-right (chain k) (places_of S t k) p n in
       let e : line_of (chain (suc k)) p ≡ Some w = ap (λ (l : Lines). line_of l p) (lines_more S t k) ∙ r.0 ∙ b.0 in

@@ -30,10 +30,10 @@ unfolding text content_places content_lines
 text_contents k b [] = refl
 text_contents k b (p ∷ l) = rw (text_contents k b l) refl
 
-pub text-lines : (S : Settings) (c : Chain Content) → text (lines_of S c) ≡ chain_lines S c
+pub text_lines : (S : Settings) (c : Chain Content) → text (lines_of S c) ≡ chain_lines S c
 unfolding text lines_of chain_lines
-text-lines S [] = refl
-text-lines S (b ∷ c) = text-append (lines_of S c) (content_places (length c + 1) b.round (ordered S b c)) ∙ rw (text-lines S c, text_contents (length c + 1) b.round (ordered S b c)) refl
+text_lines S [] = refl
+text_lines S (b ∷ c) = text-append (lines_of S c) (content_places (length c + 1) b.round (ordered S b c)) ∙ rw (text_lines S c, text_contents (length c + 1) b.round (ordered S b c)) refl
 
 -- ---- a block by keys: key q is round q / 16, and the member that is q % 16 after a
 

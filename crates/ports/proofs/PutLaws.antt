@@ -1,7 +1,6 @@
 -- The words of a port, put.
 use Rattle.std.proofs.Common.{◌≡◌, refl, sym, ◌∙◌, List, [], ◌∷◌, ◌≢◌, ℕ, zero, suc, ◌+◌, ◌-◌, ◌<◌, ◌≤◌, arith, length, length-set, get_or, set, ext_get_or, get_or-set_same, get_or-set_other}
-use native.Mathlib.Decide.{ℕ_discrete, dec_lt}
-use lib.Seq.{paste, length-paste}
+use Rattle.base.proofs.Words.{ℕ_discrete, dec_lt, paste, length-paste}
 use Rattle.base.proofs.PasteLaws.{paste-below, paste-inside, paste-above}
 use Rattle.ports.specs.Ports.{port_start, port_word}
 

@@ -1,7 +1,6 @@
 -- What a read leaves.
 use Rattle.std.proofs.Common.{◌≡◌, refl, sym, ap, ◌∙◌, Bool, true, false, cond, not, ◌&&◌, List, ℕ, suc, ◌+◌, ◌/◌, ◌%◌, ◌≤◌, arith, length, set, eqb, leb, eq-eqb, ne_eqb, eqb-true, leb-true, ltb, ltb-false, get_or, is_some, Option, Some, None}
-use native.Mathlib.Decide.{ℕ_discrete}
-use lib.ListN.{get_or-eq_default}
+use Rattle.base.proofs.Words.{ℕ_discrete, get_or-eq_default}
 use Rattle.std.proofs.lemmas.Option.{same_Some, none-some}
 use Rattle.base.specs.Options.{if_there}
 use Rattle.base.proofs.Bools.{both}
@@ -76,10 +75,10 @@ module _ (S : Settings) (t : List ℕ) (blocks g : ℕ) (x : FormedPort S t bloc
   unfolding bytes_read cursor_fits
   cursor-own = go (ℕ_discrete p 0) (cursor S t blocks g x)
     where
-      go : Dec (p ≡ 0) → cond (eqb p 0) (eqb j 0) (is_listed t S.ceiling.0 blocks p && in_line j (length (line_at t (p % 16) (p / 16)))) ≡ true → cursor_of lines (cond (eqb p 0 && eqb j 0) 0 (read_to lines p j)) ≡ (p, j)
+      go : Dec (p ≡ 0) → cond (eqb p 0) (eqb j 0) (is_listed t S.ceiling blocks p && in_line j (length (line_at t (p % 16) (p / 16)))) ≡ true → cursor_of lines (cond (eqb p 0 && eqb j 0) 0 (read_to lines p j)) ≡ (p, j)
       go (yes e) f = let k : eqb j 0 ≡ true = rw (eq-eqb p 0 e) at f in rw (eq-eqb p 0 e, k) (cursor-zero lines ∙ rw (e, eqb-true j 0 k) refl)
       go (no n) f =
-          let b = both (is_listed t S.ceiling.0 blocks p) _ (rw (ne_eqb p 0 n) at f) in
+          let b = both (is_listed t S.ceiling blocks p) _ (rw (ne_eqb p 0 n) at f) in
           let i = both (leb 1 j) (leb j (length (line_at t (p % 16) (p / 16)))) b.1 in
           rw (ne_eqb p 0 n) (cursor-back lines p j (line_at t (p % 16) (p / 16)) (line-listed S t blocks p b.0) (leb-true 1 j i.0) (leb-true j (length (line_at t (p % 16) (p / 16))) i.1))
 

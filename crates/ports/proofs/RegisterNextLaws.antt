@@ -1,6 +1,6 @@
 -- What the code finds is the next byte of a port.
 use Rattle.std.proofs.Common.{◌≡◌, refl, sym, ◌∙◌, true, List, ◌≢◌, ℕ, suc, ◌+◌, ◌/◌, ◌%◌, ◌<◌, ◌≤◌, arith, length, get_or, lt-ltb, le-ltb, Option, Some, None}
-use native.Mathlib.Decide.{ℕ_discrete}
+use Rattle.base.proofs.Words.{ℕ_discrete}
 use Rattle.base.proofs.Bools.{both}
 use Rattle.terms.specs.declared.sheet.Settings.{Settings}
 use Rattle.chain_committees.specs.ChainInTable.{ChainInTable}
@@ -13,7 +13,7 @@ use Rattle.ports.proofs.FitLaws.{port_local}
 use Rattle.ports.proofs.ByteLaws.{ByteAt, NextLine, place, byte_inside, next-after, next-first}
 
 -- a place of a line is in the table
-pub has_line : (S : Settings) (t : List ℕ) (blocks p : ℕ) → ChainInTable S t blocks → LinePlace t S.ceiling.0 blocks p → HasLine t p
+pub has_line : (S : Settings) (t : List ℕ) (blocks p : ℕ) → ChainInTable S t blocks → LinePlace t S.ceiling blocks p → HasLine t p
 has_line S t blocks p c x = record { within = record { member = omega arith; row = omega (arith, x.to, c.long) }; block = omega (arith, x.mark_to, c.few, c.long) }
 
 module _ (S : Settings) (t : List ℕ) (blocks g : ℕ) (x : FormedPort S t blocks g) where
@@ -23,10 +23,10 @@ module _ (S : Settings) (t : List ℕ) (blocks g : ℕ) (x : FormedPort S t bloc
   abbrev j : ℕ
   j = port_word t g 1
 
-  pub cursor : cursor_fits t S.ceiling.0 blocks p j ≡ true
-  cursor = (both (cursor_fits t S.ceiling.0 blocks p j) _ (sym (port_local S t blocks g) ∙ x.fits)).0
+  pub cursor : cursor_fits t S.ceiling blocks p j ≡ true
+  cursor = (both (cursor_fits t S.ceiling blocks p j) _ (sym (port_local S t blocks g) ∙ x.fits)).0
 
-  pub stands : p ≢ 0 → LinePlace t S.ceiling.0 blocks p
+  pub stands : p ≢ 0 → LinePlace t S.ceiling blocks p
   stands n = place S t blocks p j cursor n
 
   told : (q i b : ℕ) → ByteAt S t blocks p j q i b → Some (record { place = q; bytes = i; byte = b }) ≡ next_byte S t blocks g
@@ -55,7 +55,7 @@ module _ (S : Settings) (t : List ℕ) (blocks g : ℕ) (x : FormedPort S t bloc
   -- ---- the same, of two numbers that are these words
 
   module _ {a : ℕ} {b : ℕ} (e : a ≡ p) (f : b ≡ j) where
-    pub stands_at : a ≢ 0 → LinePlace t S.ceiling.0 blocks a
+    pub stands_at : a ≢ 0 → LinePlace t S.ceiling blocks a
     stands_at n = rw e (stands (λ z. n (e ∙ z)))
 
     pub inside_at : {y : ℕ} → a ≢ 0 → b < length (line_at t (a % 16) (a / 16)) → y ≡ get_or (line_at t (a % 16) (a / 16)) b 0 → Some (record { place = a; bytes = b + 1; byte = y }) ≡ next_byte S t blocks g

@@ -1,7 +1,7 @@
 -- What rows tell of a next line, by the keys of any start.
 use Rattle.std.proofs.Common.{◌≡◌, refl, sym, ap, ◌∙◌, List, ℕ, ◌+◌, ◌-◌, ◌*◌, ◌/◌, ◌%◌, ◌<◌, ◌≤◌, arith, Some, None}
 use Rattle.std.proofs.lemmas.Bool.{false≢true}
-use native.Mathlib.Decide.{dec_lt}
+use Rattle.base.proofs.Words.{dec_lt}
 use Rattle.base.proofs.UnionLaws.{in_none}
 use Rattle.terms.specs.declared.sheet.Settings.{Settings}
 use Rattle.store.specs.Table.{held_set, held_at, mark_at}
@@ -66,7 +66,7 @@ module _ (t : List ℕ) where
 
 module _ (S : Settings) (t : List ℕ) (blocks : ℕ) where
   abbrev ceiling : ℕ
-  ceiling = S.ceiling.0
+  ceiling = S.ceiling
 
   -- after the newest block there is no line
   pub none_later : (k : ℕ) → k ≡ blocks → None ≡ first_place (lines_beyond S t blocks k)

@@ -1,7 +1,6 @@
 -- What the search for the next line has found is the next line.
 use Rattle.std.proofs.Common.{◌≡◌, refl, sym, ap, ◌∙◌, Bool, true, false, List, [], ◌∷◌, ◌++◌, append_assoc, append-nil, ℕ, zero, suc, ◌+◌, ◌-◌, ◌*◌, ◌/◌, ◌%◌, ◌<◌, ◌≤◌, arith, add-one, length, drop, ne_eqb, Some, None}
-use native.Mathlib.Decide.{dec_lt}
-use lib.Seq.{drop-append-add}
+use Rattle.base.proofs.Words.{dec_lt, drop-append-add}
 use Rattle.terms.specs.declared.sheet.Settings.{Settings}
 use Rattle.store.specs.Table.{held_at, mark_at, block_round}
 use Rattle.committee.specs.Chain.{holds_at, chain_of}
@@ -67,7 +66,7 @@ module _ (t : List ℕ) (n k a : ℕ) where
 
 module _ (S : Settings) (t : List ℕ) where
   abbrev ceiling : ℕ
-  ceiling = S.ceiling.0
+  ceiling = S.ceiling
 
   -- a block without certificates has no line
   empty_block : (k : ℕ) → ((p : ℕ) → 16 ≤ p → p < ceiling * 16 + 16 → Marked t (suc k) p → ⊥) → places_of S t k ≡ []
@@ -198,3 +197,15 @@ module _ (S : Settings) (t : List ℕ) where
                 let i = key_of a (p % 16) (p / 16) in
                 let e : key_place a i ≡ p = key-place a (p % 16) (p / 16) (omega arith) ∙ by_place p in
                 absurd (f.skipped i (omega (arith, m.1)) (omega (arith, m.2)) (rw e m.3))
+
+  -- so where the block after the first k has one
+  pub first_next : (blocks k : ℕ) → k < blocks → (q : ℕ) → KeyFound t ceiling (k + 1) (start_at S t k) 16 q → q < ceiling * 16 + 16 → Some (key_place (start_at S t k) q) ≡ first_place (lines_beyond S t blocks k)
+  first_next blocks k h q f l =
+      let z : k + 1 - 1 ≡ k = omega arith in
+      let x : BlockFound t ceiling blocks k (k + 1) = record {
+        from = omega arith;
+        to = omega arith;
+        here = λ _. (key_place (start_at S t k) q, omega (arith, f.from), omega arith, f.here l);
+        skipped = λ j p u v. absurd (omega arith);
+      } in
+      rw z at (first_beyond blocks k (k + 1) (omega arith) x (omega arith) q (rw z f))

@@ -1,6 +1,6 @@
 -- What a write leaves.
 use Rattle.std.proofs.Common.{◌≡◌, refl, sym, ap, ◌∙◌, true, false, List, ℕ, ◌+◌, ◌%◌, ◌<◌, ◌≤◌, arith, ◌≢◌, ne_eqb, length, set, replicate, leb}
-use lib.Seq.{paste}
+use Rattle.base.proofs.Words.{paste}
 use Rattle.terms.specs.declared.sheet.Settings.{Settings}
 use Rattle.ports.specs.Uart.{after_write, reset_port}
 use Rattle.store.specs.Table.{Row}

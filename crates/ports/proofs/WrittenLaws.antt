@@ -1,7 +1,6 @@
 -- Ports stay well formed under what calls write.
 use Rattle.std.proofs.Common.{◌≡◌, refl, sym, ◌∙◌, true, false, ◌&&◌, List, ℕ, ◌+◌, ◌*◌, ◌/◌, ◌%◌, ◌<◌, ◌≤◌, arith, eqb, eq-eqb, ne_eqb, get_or}
-use mathlib.Core.Bool.{false≢true}
-use native.Mathlib.Decide.{ℕ_discrete}
+use Rattle.base.proofs.Words.{false≢true, ℕ_discrete}
 use Rattle.terms.specs.Proposals.{Content}
 use Rattle.store.specs.Table.{Within, held_at, mark_at, content_at, block_round}
 use Rattle.store.specs.Writes.{put_certificate, clear_used}

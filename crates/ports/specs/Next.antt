@@ -15,14 +15,14 @@ first_place (e ∷ l) = Some e.0
 -- the lines after a place's; all of them after 0, which is no certificate's
 unfoldable pub lines_from : Settings → List ℕ → ℕ → ℕ → Lines
 lines_from S t blocks p =
-    if p == 0 then lines_of S (chain_of S.ceiling.0 t blocks)
-    else lines_after (lines_of S (chain_of S.ceiling.0 t blocks)) p
+    if p == 0 then lines_of S (chain_of S.ceiling t blocks)
+    else lines_after (lines_of S (chain_of S.ceiling t blocks)) p
 
 -- the lines of the blocks after the first k
 unfoldable pub lines_beyond : Settings → List ℕ → ℕ → ℕ → Lines
 lines_beyond S t blocks k =
-    drop (length (lines_of S (chain_of S.ceiling.0 t k)))
-    (lines_of S (chain_of S.ceiling.0 t blocks))
+    drop (length (lines_of S (chain_of S.ceiling t k)))
+    (lines_of S (chain_of S.ceiling t blocks))
 
 -- ---- keys: key q of a block whose rows start with member a is of round q / 16, and of the member that is q % 16 after a
 

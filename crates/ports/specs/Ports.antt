@@ -34,10 +34,10 @@ port_word t g i = get_or t (port_start g + i) 0
 module _ (S : Settings) (t : List ℕ) (blocks : ℕ) where
   -- the listing, and its lines with their places
   abbrev pub listing_of : List ℕ
-  listing_of = chain_lines S (chain_of S.ceiling.0 t blocks)
+  listing_of = chain_lines S (chain_of S.ceiling t blocks)
 
   abbrev pub placed_lines : Lines
-  placed_lines = lines_of S (chain_of S.ceiling.0 t blocks)
+  placed_lines = lines_of S (chain_of S.ceiling t blocks)
 
   unfoldable pub port_in : ℕ → Port
   port_in g =

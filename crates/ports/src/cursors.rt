@@ -2,17 +2,21 @@
 //!
 //! A reader stands at a place, 16 r + m for the certificate of member m and round r, or at 0, before the first line.
 
-ghost use Rattle.std.specs.Prelude.{◌≡◌, true, false, List, ◌≢◌, ℕ, ◌+◌, ◌*◌, ◌/◌, ◌%◌, ◌<◌, ◌≤◌, length, get_or};
-ghost use Rattle.store.specs.Table.{Within};
+ghost use Rattle.std.specs.Prelude.{◌≡◌, true, false, List, ◌≢◌, ℕ, ◌+◌, ◌*◌, ◌/◌, ◌%◌, ◌-◌, ◌<◌, ◌≤◌, length, get_or, Some, IfSome};
+ghost use Rattle.store.specs.Table.{Within, mark_at};
 ghost use Rattle.base.specs.Puts.{Puts};
+ghost use Rattle.chain_committees.specs.BlockChanges.{start_at};
+ghost use Rattle.chain_committees.specs.Caches.{Caches};
 ghost use Rattle.chain_committees.specs.Links.{Marked};
+ghost use Rattle.chain_committees.specs.Told.{blocks_in};
 ghost use Rattle.ports.specs.Places.{line_at, HasLine, LineRoom};
 ghost use Rattle.ports.specs.Next.{first_place, lines_from, lines_beyond, key_place, key_of, KeyFound, BlockFound, LinePlace, NextInBlock};
 
 use crate::rows::{self, ByRows};
 use chain_committees::chain::Chain;
-use chain_committees::over_blocks;
 use chain_committees::walk::Walk;
+use chain_committees::{cache, over_blocks};
+use committee::leader;
 use terms::{Member, Round};
 
 // The line of `place`, from the start of a buffer on; gives its length.
@@ -59,11 +63,12 @@ fn place_of(start: Member, key: u32) -> u32
 
 // From `key` on, the first one with a certificate of `block`, whose rows start with member `start`; the end if there is none.
 fn next_key(chain: Chain, block: u32, start: Member, key: u32) -> u32
-    requires { (start.0 ≤ 16) × (key ≤ chain.settings.now.ceiling.0 * 16 + 16) }
+    requires { (start.0 ≤ 16) × (key ≤ chain.settings.now.ceiling * 16 + 16) }
     ensures { let c = chain.entry in
-        KeyFound c.table.now c.settings.now.ceiling.0 block start.0 key result }
+        KeyFound c.table.now c.settings.now.ceiling block start.0 key result }
 {
-    let end = chain.settings.ceiling.0 * 16 + 16;
+    let ceiling = chain.settings.ceiling;
+    let end = ceiling.0 * 16 + 16;
     (key..end)
         .find(|&i| rows::is_marked(chain.table, block, place_of(start, i)))
         .unwrap_or(end)
@@ -73,10 +78,11 @@ fn next_key(chain: Chain, block: u32, start: Member, key: u32) -> u32
 fn next_block(walk: &Walk, block: u32) -> u32
     requires { block ≤ walk.now.chain.blocks }
     ensures found { let c = walk.now.chain in
-        BlockFound c.table.now c.settings.now.ceiling.0 c.blocks block result }
+        BlockFound c.table.now c.settings.now.ceiling c.blocks block result }
     ensures later { block < result }
 {
-    let end = walk.chain.settings.ceiling.0 * 16 + 16;
+    let ceiling = walk.chain.settings.ceiling;
+    let end = ceiling.0 * 16 + 16;
     let last = walk.chain.blocks + 1;
     (block + 1..last)
         .find(|&j| walk.head[j as usize] < end)
@@ -91,25 +97,37 @@ fn key_after(start: Member, place: u32) -> u32
     place / 16 * 16 + (place % 16 + (16 - start.0 % 16)) % 16 + 1
 }
 
-// The place after `place` in the order of its block, if there is one, by a walk that goes on to this block.
+// The place after `place` in the order of its block, if there is one, where the block's rows start with member `start`.
 #[tactic(auto, using(crate::proofs::SearchLaws::next_key_in, crate::proofs::SearchLaws::no_key_in))]
+fn next_from(chain: Chain, start: Member, place: u32) -> Option<u32>
+    requires place { LinePlace chain.table.now chain.settings.now.ceiling chain.blocks place }
+    requires start { start.0 ≡ start_at chain.settings.now chain.table.now
+        (mark_at chain.table.now (place % 16) (place / 16) - 1) }
+    requires to { start.0 ≤ 16 }
+    ensures { let c = chain.entry in
+        NextInBlock c.settings.now c.table.now c.blocks place result }
+{
+    let block = store::record::mark(chain.table, Member(place % 16), Round(place / 16));
+    let key = next_key(chain, block, start, key_after(start, place));
+    let ceiling = chain.settings.ceiling;
+    if key < ceiling.0 * 16 + 16 {
+        Some(place_of(start, key))
+    } else {
+        None
+    }
+}
+
+// The same, by a walk that goes on to this block.
 fn next_in_block(walk: &mut Walk, place: u32) -> Option<u32>
     requires { let c = walk.old.chain in
-        LinePlace c.table.now c.settings.now.ceiling.0 c.blocks place }
+        LinePlace c.table.now c.settings.now.ceiling c.blocks place }
     ensures chain { walk.new.chain ≡ walk.old.chain }
     ensures next { let c = walk.new.chain in
         NextInBlock c.settings.now c.table.now c.blocks place result }
 {
     let block = store::record::mark(walk.chain.table, Member(place % 16), Round(place / 16));
     walk.begin(block);
-    let chain = walk.chain;
-    let start = walk.start(block - 1);
-    let key = next_key(chain, block, start, key_after(start, place));
-    if key < chain.settings.ceiling.0 * 16 + 16 {
-        Some(place_of(start, key))
-    } else {
-        None
-    }
+    next_from(walk.chain, walk.start(block - 1), place)
 }
 
 // The place of the first line of the blocks after `block`, if there is one, by a walk that goes on to the block that has it.
@@ -132,7 +150,7 @@ fn first_after(walk: &mut Walk, block: u32) -> Option<u32>
 #[tactic(auto, using(crate::proofs::SearchLaws::from_start), unfolding(crate::specs::Next::NextInBlock))]
 fn place_after(walk: &mut Walk, place: u32) -> Option<u32>
     requires { let c = walk.old.chain in
-        place ≢ 0 → LinePlace c.table.now c.settings.now.ceiling.0 c.blocks place }
+        place ≢ 0 → LinePlace c.table.now c.settings.now.ceiling c.blocks place }
     ensures { let c = walk.old.chain in
         result ≡ first_place (lines_from c.settings.now c.table.now c.blocks place) }
 {
@@ -149,23 +167,89 @@ fn place_after(walk: &mut Walk, place: u32) -> Option<u32>
 // The place of the line after that of `place`, by a walk over the blocks up to that of the line. A function of its own, since a function clears its words where it is entered.
 fn walked_after(chain: Chain, place: u32) -> Option<u32>
     requires { place ≢ 0
-        → LinePlace chain.table.now chain.settings.now.ceiling.0 chain.blocks place }
+        → LinePlace chain.table.now chain.settings.now.ceiling chain.blocks place }
     ensures { let c = chain.entry in
         result ≡ first_place (lines_from c.settings.now c.table.now c.blocks place) }
 {
     over_blocks!(chain, walk => place_after(&mut walk, place))
 }
 
-/// The place of the line after that of `place` in the listing of a chain, if there is one; the first line's where `place` is 0. The listing is not made for it, and the leaders of blocks are worked out only where the rows do not tell it.
-pub(crate) fn line_after(chain: Chain, place: u32) -> Option<u32>
-    requires { place ≢ 0
-        → LinePlace chain.table.now chain.settings.now.ceiling.0 chain.blocks place }
+// With whom the rows of the block after the first ones, `before` in number, start, 16 for none: the leader of its round, where the committee is cached.
+fn cached_start(chain: Chain, cache: &[u64], before: u32) -> Option<Member>
+    requires before { before < chain.blocks }
+    requires caches { let c = chain in Caches c.settings.now (blocks_in c) cache.now }
+    ensures { let c = chain.entry in
+        IfSome result (λ m. (m.0 ≡ start_at c.settings.now c.table.now before) × (m.0 ≤ 16)) }
+{
+    let round = store::block_round(chain.table, before + 1);
+    if !cache::is_cached(cache, chain.settings.ceiling, round) {
+        return None;
+    }
+    let committee = cache::committee(cache, chain, round);
+    Some(leader::leader(&committee.weights, round))
+}
+
+// The place of the first line of the block after the first ones, `before` in number, if it has one and the committee of its round is cached.
+fn cached_first(chain: Chain, cache: &[u64], before: u32) -> Option<u32>
+    requires before { before ≤ chain.blocks }
+    requires caches { let c = chain in Caches c.settings.now (blocks_in c) cache.now }
+    ensures { let c = chain.entry in
+        IfSome result (λ v. Some v
+        ≡ first_place (lines_beyond c.settings.now c.table.now c.blocks before)) }
+{
+    if before == chain.blocks {
+        return None;
+    }
+    let Some(start) = cached_start(chain, cache, before) else {
+        return None;
+    };
+    let key = next_key(chain, before + 1, start, 16);
+    let ceiling = chain.settings.ceiling;
+    if key < ceiling.0 * 16 + 16 {
+        Some(place_of(start, key))
+    } else {
+        None
+    }
+}
+
+// The place of the line after that of `place`, the first one's after 0, where cached committees tell it.
+#[tactic(auto, using(crate::proofs::SearchLaws::from_start), unfolding(crate::specs::Next::NextInBlock))]
+fn cached_after(chain: Chain, cache: &[u64], place: u32) -> Option<u32>
+    requires caches { let c = chain in Caches c.settings.now (blocks_in c) cache.now }
+    requires place { place ≢ 0
+        → LinePlace chain.table.now chain.settings.now.ceiling chain.blocks place }
+    ensures { let c = chain.entry in
+        IfSome result (λ v. Some v
+        ≡ first_place (lines_from c.settings.now c.table.now c.blocks place)) }
+{
+    if place == 0 {
+        return cached_first(chain, cache, 0);
+    }
+    let block = store::record::mark(chain.table, Member(place % 16), Round(place / 16));
+    let Some(start) = cached_start(chain, cache, block - 1) else {
+        return None;
+    };
+    match next_from(chain, start, place) {
+        Some(next) => Some(next),
+        None => cached_first(chain, cache, block),
+    }
+}
+
+/// The place of the line after that of `place` in the listing of a chain, if there is one; the first line's where `place` is 0. The listing is not made for it, and a leader is looked for only where the rows do not tell it: in the committees that are cached, and then by a walk over the blocks.
+pub(crate) fn line_after(chain: Chain, cache: &[u64], place: u32) -> Option<u32>
+    requires caches { let c = chain in Caches c.settings.now (blocks_in c) cache.now }
+    requires place { place ≢ 0
+        → LinePlace chain.table.now chain.settings.now.ceiling chain.blocks place }
     ensures { let c = chain.entry in
         result ≡ first_place (lines_from c.settings.now c.table.now c.blocks place) }
 {
     match rows::line_after(chain, place) {
-        ByRows::Nothing => None,
-        ByRows::Line(next) => Some(next),
-        ByRows::Untold => walked_after(chain, place),
+        ByRows::Nothing => return None,
+        ByRows::Line(next) => return Some(next),
+        ByRows::Untold => {}
+    }
+    match cached_after(chain, cache, place) {
+        Some(next) => Some(next),
+        None => walked_after(chain, place),
     }
 }

@@ -43,8 +43,8 @@ pub(crate) fn word(table: &[u32], port: u32, index: u32) -> u32
 // Is `place` of a certificate in one of the first blocks?
 #[tactic(auto, unfolding(crate::specs::Ports::is_listed))]
 fn is_listed(table: &[u32], ceiling: Round, blocks: u32, place: u32) -> bool
-    requires { RowsTo table.now ceiling.0 }
-    ensures { result ≡ is_listed table.now ceiling.0 blocks place }
+    requires { RowsTo table.now ceiling }
+    ensures { result ≡ is_listed table.now ceiling blocks place }
 {
     let author = Member(place % 16);
     let round = Round(place / 16);
@@ -56,8 +56,8 @@ fn is_listed(table: &[u32], ceiling: Round, blocks: u32, place: u32) -> bool
 // Is `byte` of the line of `place` one of the listing, or are both 0?
 #[tactic(auto, using(crate::proofs::FitLaws::listed_place), unfolding(crate::specs::Ports::cursor_fits))]
 fn cursor_fits(table: &[u32], ceiling: Round, blocks: u32, place: u32, byte: u32) -> bool
-    requires { RowsTo table.now ceiling.0 × (blocks ≤ ceiling.0) }
-    ensures { result ≡ cursor_fits table.now ceiling.0 blocks place byte }
+    requires { RowsTo table.now ceiling × (blocks ≤ ceiling) }
+    ensures { result ≡ cursor_fits table.now ceiling blocks place byte }
 {
     if place == 0 {
         return byte == 0;
@@ -80,7 +80,7 @@ fn registers_fit(table: &[u32], port: u32) -> bool
 // Has `port` not read past the end of the listing, and do its registers hold what they can?
 #[tactic(auto, using(crate::proofs::FitLaws::port_local))]
 fn port_fits(table: &[u32], settings: &Settings, blocks: u32, port: u32) -> bool
-    requires { RowsTo table.now settings.now.ceiling.0 × (blocks ≤ settings.now.ceiling.0)
+    requires { RowsTo table.now settings.now.ceiling × (blocks ≤ settings.now.ceiling)
         × (port < 8) }
     ensures { result ≡ port_fits settings.now table.now blocks port }
 {
@@ -96,7 +96,7 @@ fn port_fits(table: &[u32], settings: &Settings, blocks: u32, port: u32) -> bool
 /// Are all eight ports well formed: none has read past the end of the listing, and their registers hold what they can?
 #[tactic(auto, unfolding(crate::specs::Ports::ports_fit, base::specs::Folds::all_to))]
 pub fn ports_fit(table: &[u32], settings: &Settings, blocks: u32) -> bool
-    requires { RowsTo table.now settings.now.ceiling.0 × (blocks ≤ settings.now.ceiling.0) }
+    requires { RowsTo table.now settings.now.ceiling × (blocks ≤ settings.now.ceiling) }
     ensures { result ≡ ports_fit settings.now table.now blocks }
 {
     (0..8).all(|g| port_fits(table, settings, blocks, g))

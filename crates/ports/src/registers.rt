@@ -5,6 +5,9 @@ ghost use Rattle.std.proofs.Math.Seq.{paste};
 ghost use Rattle.base.specs.Options.{if_there};
 ghost use Rattle.store.specs.Table.{Row};
 ghost use Rattle.terms.specs.declared.sheet.Settings.{Settings};
+ghost use Rattle.committee.specs.Chain.{chain_of};
+ghost use Rattle.chain_committees.specs.Caches.{Caches};
+ghost use Rattle.chain_committees.specs.Told.{blocks_in};
 ghost use Rattle.ports.specs.Uart.{values_at, after_read, after_write};
 ghost use Rattle.ports.specs.Ports.{port_word, port_start, words_written, listing_of, port_in, FormedPort, put_port};
 ghost use Rattle.ports.specs.Bytes.{next_byte, looks_at_next};
@@ -32,8 +35,9 @@ pub(crate) struct Next {
 
 // The next byte of `port`, none where no byte waits.
 #[tactic(auto, using(crate::proofs::RegisterNextLaws::has_line, crate::proofs::RegisterNextLaws::stands_at))]
-fn next_byte(chain: Chain, port: u32) -> Option<Next>
-    requires { FormedPort chain.settings.now chain.table.now chain.blocks port }
+fn next_byte(chain: Chain, cache: &[u64], port: u32) -> Option<Next>
+    requires caches { let c = chain in Caches c.settings.now (blocks_in c) cache.now }
+    requires formed { FormedPort chain.settings.now chain.table.now chain.blocks port }
     ensures { let c = chain.entry in result ≡ next_byte c.settings.now c.table.now c.blocks port }
 {
     let table = chain.table;
@@ -46,7 +50,7 @@ fn next_byte(chain: Chain, port: u32) -> Option<Next>
             byte: cursors::line_byte(table, place, bytes),
         });
     }
-    let Some(q) = cursors::line_after(chain, place) else {
+    let Some(q) = cursors::line_after(chain, cache, place) else {
         return None;
     };
     Some(Next {
@@ -126,7 +130,7 @@ fn status(next: Option<Next>) -> u32
 }
 
 // What `offset` shows; `next` is the next byte, where the offset looks at it.
-#[tactic(auto, unfolding(crate::specs::Uart::values_at, crate::specs::Ports::port_in, crate::specs::Bytes::looks_at_next))]
+#[tactic(auto, using(crate::proofs::ReadLaws::data_shown), unfolding(crate::specs::Uart::values_at, crate::specs::Ports::port_in, crate::specs::Bytes::looks_at_next))]
 fn value(table: &[u32], port: u32, offset: u32, next: Option<Next>) -> u32
     requires { Row table.now 0 × (port < 8) × (offset < 8) }
     ensures { (S : Settings) (blocks : ℕ)
@@ -173,21 +177,33 @@ fn looks_at_next(offset: u32) -> bool
 }
 
 // The next byte, where `offset` looks at it.
-fn found(chain: Chain, port: u32, offset: u32) -> Option<Next>
-    requires { FormedPort chain.settings.now chain.table.now chain.blocks port }
+fn found(chain: Chain, cache: &[u64], port: u32, offset: u32) -> Option<Next>
+    requires caches { let c = chain in Caches c.settings.now (blocks_in c) cache.now }
+    requires formed { FormedPort chain.settings.now chain.table.now chain.blocks port }
     ensures { let c = chain.entry in
         looks_at_next offset ≡ true → result ≡ next_byte c.settings.now c.table.now c.blocks port }
 {
     if looks_at_next(offset) {
-        next_byte(chain, port)
+        next_byte(chain, cache, port)
     } else {
         None
     }
 }
 
 /// A read of `port`, 0 to 7, at `offset`, 0 to 7: gives the byte that the offset shows. At offset 0, while bit 7 of offset 3 is clear and a byte of the listing waits, that byte is taken; nothing else changes.
-pub fn read(table: &mut [u32], settings: &Settings, blocks: u32, port: u32, offset: u32) -> u32
-    requires { FormedPort settings.now table.old blocks port × (offset < 8) }
+/// Committees of the chain's rounds may be cached.
+pub fn read(
+    cache: &[u64],
+    table: &mut [u32],
+    settings: &Settings,
+    blocks: u32,
+    port: u32,
+    offset: u32,
+) -> u32
+    requires caches { let s = settings.now in
+        Caches s (chain_of s.ceiling table.old blocks) cache.now }
+    requires formed { FormedPort settings.now table.old blocks port }
+    requires offset { offset < 8 }
     ensures { let s = settings.now in
         (result
         ≡ get_or (values_at (listing_of s table.old blocks) (port_in s table.old blocks port))
@@ -196,7 +212,7 @@ pub fn read(table: &mut [u32], settings: &Settings, blocks: u32, port: u32, offs
         ≡ put_port s table.old blocks port (after_read (listing_of s table.old blocks)
         (port_in s table.old blocks port) offset)) }
 {
-    let next = found(Chain::new(table, settings, blocks), port, offset);
+    let next = found(Chain::new(table, settings, blocks), cache, port, offset);
     let byte = value(table, port, offset, next);
     take(table, port, offset, next);
     byte

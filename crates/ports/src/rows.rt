@@ -34,8 +34,8 @@ pub(crate) fn is_marked(table: &[u32], block: u32, place: u32) -> bool
 
 // The first place of row `round` from member `from` on with a certificate of `block`.
 fn first_marked(table: &[u32], block: u32, round: Round, from: u32) -> Option<u32>
-    requires { RowsTo table.now round.0 × (from ≤ 16) }
-    ensures { FirstMarked table.now block (round.0 * 16 + from) (round.0 * 16 + 16) result }
+    requires { RowsTo table.now round × (from ≤ 16) }
+    ensures { FirstMarked table.now block (round * 16 + from) (round * 16 + 16) result }
 {
     let row = round.0 * 16;
     (row + from..row + 16).find(|&place| is_marked(table, block, place))
@@ -44,8 +44,8 @@ fn first_marked(table: &[u32], block: u32, round: Round, from: u32) -> Option<u3
 // What a row tells of a block.
 #[tactic(auto, using(crate::proofs::RowLaws::empty_row))]
 fn in_row(table: &[u32], block: u32, round: Round) -> ByRows
-    requires { RowsTo table.now round.0 }
-    ensures { RowsTell table.now block (round.0 * 16) (round.0 * 16 + 16) result }
+    requires { RowsTo table.now round }
+    ensures { RowsTell table.now block (round * 16) (round * 16 + 16) result }
 {
     if store::held_set(table, round) == 0 {
         return ByRows::Nothing;
@@ -61,8 +61,8 @@ fn in_row(table: &[u32], block: u32, round: Round) -> ByRows
 
 // What the rows from `from` on tell of a block.
 fn from_row(table: &[u32], ceiling: Round, block: u32, from: Round) -> ByRows
-    requires { RowsTo table.now ceiling.0 }
-    ensures { RowsTell table.now block (from.0 * 16) (ceiling.0 * 16 + 16) result }
+    requires { RowsTo table.now ceiling }
+    ensures { RowsTell table.now block (from * 16) (ceiling * 16 + 16) result }
 {
     for round in from.0..ceiling.0 + 1 {
         match in_row(table, block, Round(round)) {
@@ -93,7 +93,7 @@ fn first_after(chain: Chain, block: u32) -> ByRows
 #[tactic(auto, using(crate::proofs::RowLaws::next_alone, crate::proofs::RowLaws::row_last, crate::proofs::SearchLaws::from_start))]
 pub(crate) fn line_after(chain: Chain, place: u32) -> ByRows
     requires { place ≢ 0
-        → LinePlace chain.table.now chain.settings.now.ceiling.0 chain.blocks place }
+        → LinePlace chain.table.now chain.settings.now.ceiling chain.blocks place }
     ensures { let c = chain.entry in
         LinesTold (lines_from c.settings.now c.table.now c.blocks place) result }
 {

@@ -24,6 +24,7 @@ pub fn registers_hold()
 {}
 
 /// The lines of a chain, each with the place of its certificate, have the bytes of the listing and no closing ok.
+#[tactic(auto, using(crate::proofs::PlaceLaws::text_lines))]
 pub fn lines_are_the_listing()
     ensures { (S : Settings) (c : Chain Content) → text (lines_of S c) ≡ chain_lines S c }
 {}

@@ -1,6 +1,6 @@
 -- What an accepted commit finds.
 use Rattle.std.proofs.Common.{◌≡◌, refl, sym, ◌∙◌, true, List, ℕ, suc, ◌+◌, ◌-◌, ◌<◌, ◌≤◌, arith, get_or, leb-true}
-use native.Mathlib.Decide.{ℕ_discrete}
+use Rattle.base.proofs.Words.{ℕ_discrete}
 use Rattle.base.proofs.CheckLaws.{cleared}
 use Rattle.agreement.specs.Rules.{last}
 use Rattle.store.specs.Table.{held_at}
@@ -26,7 +26,7 @@ use Rattle.rules.specs.Calls as rules
 
 module _ (s : State) (t : List ℕ) (ok : commit_refusal s t ≡ 0) where
   abbrev n : ℕ
-  n = s.settings.ceiling.0
+  n = s.settings.ceiling
 
   abbrev k : ℕ
   k = s.blocks
@@ -35,7 +35,7 @@ module _ (s : State) (t : List ℕ) (ok : commit_refusal s t ≡ 0) where
   m = last_round t k
 
   abbrev top : ℕ
-  top = s.round.0 - 1
+  top = s.round - 1
 
   abbrev l : List ℕ
   l = leaders_for s t
@@ -53,7 +53,7 @@ module _ (s : State) (t : List ℕ) (ok : commit_refusal s t ≡ 0) where
       let p = cleared _ 19 _ (omega arith) (refusal-passed s t rules.commit ok).1 in
       let q = cleared _ 20 _ (omega arith) p.1 in
       let w = cleared _ 8 _ (omega arith) q.1 in
-      let h = leb-true s.round.0 (s.settings.lookback + (last (chain_of n t k) + 2)) (is_known s.settings (view s t) s.round.0 w.0) in
+      let h = leb-true s.round (s.settings.lookback + (last (chain_of n t k) + 2)) (is_known s.settings (view s t) s.round w.0) in
       omega (arith, last-chain n t k)
 
   module _ (r : ℕ) (from : m < r) (to : r ≤ top) (low : get_or left r 0 < 16) where

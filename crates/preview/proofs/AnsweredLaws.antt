@@ -28,18 +28,18 @@ pub record Passed (s : State) (t l : List ℕ) (words : ℕ) : Type 0 where
 pub passed : {s x : State} {t u l : List ℕ} {words : ℕ} → (x ≡ s) × (u ≡ t) × (well_formed s t ≡ true) → 0 ≡ refusal (previewing x u words) → l ≡ leaders_for x u → Passed s t l words
 passed {s} {x} {t} {u} {l} {words} k z i = record { accepted = preview-none s t words k.2 (rw (k.0, k.1) at z); leaders = rw (k.0, k.1) at i }
 
-walk : {s : State} {t l : List ℕ} {words m : ℕ} → Passed s t l words → m ≡ last_round t s.blocks → CommitReady t l m (s.round.0 - 1) s.blocks
+walk : {s : State} {t l : List ℕ} {words m : ℕ} → Passed s t l words → m ≡ last_round t s.blocks → CommitReady t l m (s.round - 1) s.blocks
 walk {s} {t} {l} {words} {m} p q = ready s t (preview-passed s t words p.accepted).1 l p.leaders m q
 
-pub anchors_ready : {s : State} {t l : List ℕ} {words m : ℕ} → Passed s t l words → m ≡ last_round t s.blocks → AnchorsReady t l m (s.round.0 - 1)
+pub anchors_ready : {s : State} {t l : List ℕ} {words m : ℕ} → Passed s t l words → m ≡ last_round t s.blocks → AnchorsReady t l m (s.round - 1)
 anchors_ready p q = (walk p q).anchors
 
 -- where l' has the leaders that are taken
-module _ {s : State} {t l l' : List ℕ} {m : ℕ} (list : List ℕ) (p : Passed s t l (length list)) (q : m ≡ last_round t s.blocks) (j : l' ≡ taken_leaders t m (s.round.0 - 1) l) where
+module _ {s : State} {t l l' : List ℕ} {m : ℕ} (list : List ℕ) (p : Passed s t l (length list)) (q : m ≡ last_round t s.blocks) (j : l' ≡ taken_leaders t m (s.round - 1) l) where
   abbrev words : List ℕ
-  words = words_after t l' m (s.round.0 - 1 - m) s.blocks
+  words = words_after t l' m (s.round - 1 - m) s.blocks
 
-  taken : l' ≡ taken_leaders t m (s.round.0 - 1) (leaders_for s t)
+  taken : l' ≡ taken_leaders t m (s.round - 1) (leaders_for s t)
   taken = rw p.leaders at j
 
   ok : commit_refusal s t ≡ 0
@@ -53,7 +53,7 @@ module _ {s : State} {t l l' : List ℕ} {m : ℕ} (list : List ℕ) (p : Passed
   counted = ap (λ (x : List ℕ). length x) same ∙ words-length (preview_entries s t)
 
   -- there is room for them
-  pub steps_ready : length l' ≡ length l → StepsReady t l' m (s.round.0 - 1) s.blocks list
+  pub steps_ready : length l' ≡ length l → StepsReady t l' m (s.round - 1) s.blocks list
   steps_ready h =
       let w = walk p q in
       let a = w.anchors in
@@ -63,7 +63,7 @@ module _ {s : State} {t l l' : List ℕ} {m : ℕ} (list : List ℕ) (p : Passed
   module _ {list' : List ℕ} {n : ℕ} (x : Puts list list' 0 n words (length words)) where
     pub number_fits : n ≤ 3 * (16 * 1024)
     number_fits =
-        let few : length words ≤ 3 * (16 * s.settings.ceiling.0) = rw same (words-room s t ok) in
+        let few : length words ≤ 3 * (16 * s.settings.ceiling) = rw same (words-room s t ok) in
         omega (arith, x.past, (accepted s t ok).formed.settings.ceiling_to)
 
     pub number_told : n / 3 ≡ length (preview_entries s t)

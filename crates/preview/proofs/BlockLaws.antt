@@ -1,8 +1,7 @@
 -- One block more: the blocks before it stay, and what it holds.
 use Rattle.std.proofs.Common.{◌≡◌, refl, sym, ap, ap₂, ◌∙◌, Bool, true, false, cond, ◌&&◌, List, ◌∷◌, ◌++◌, ℕ, zero, suc, ◌+◌, ◌-◌, ◌<◌, ◌≤◌, arith, eqb, eq-eqb, ne_eqb, eqb-true, Option, Some, None}
-use mathlib.Core.Bool.{and-false, false≢true}
+use Rattle.base.proofs.Words.{and-false, false≢true, dec_lt, ℕ_discrete}
 use Rattle.std.proofs.lemmas.Option.{none-some}
-use native.Mathlib.Decide.{dec_lt, ℕ_discrete}
 use Rattle.base.proofs.Bools.{both}
 use Rattle.base.specs.Sets.{only}
 use Rattle.base.proofs.UnionLaws.{in_only}
@@ -135,7 +134,7 @@ pub entries-old : (S : Settings) (c a r : ℕ) (u : List ℕ) → Row u r → (k
 unfolding entries_after
 entries-old S c a r u long k zero h = refl
 entries-old S c a r u long k (suc d) h =
-    let n = S.ceiling.0 in
+    let n = S.ceiling in
     ap₂ ◌++◌ (entries-old S c a r u long k d (omega arith))
     (ap₂ (λ (b : Block Content) (e : Chain Content). entries_of (suc (k + d)) (ordered S b e))
     (block-old n c a r u long (suc (k + d)) (omega arith) (omega arith)) (chain-old n c a r u long (k + d) (omega arith)))

@@ -15,7 +15,7 @@ use Rattle.state.specs.declared.State.{State}
 use Rattle.std.specs.Prelude.{List, ℕ, ◌*◌, ◌/◌, ◌≤◌, length}
 
 -- where the list is long enough, the number is commit's
-pub refused_as_commit : (s : State) (t : List ℕ) (words : ℕ) → 16 * s.settings.ceiling.0 ≤ words / 3 → preview_refusal s t words ≡ commit_refusal s t
+pub refused_as_commit : (s : State) (t : List ℕ) (words : ℕ) → 16 * s.settings.ceiling ≤ words / 3 → preview_refusal s t words ≡ commit_refusal s t
 refused_as_commit s t words h = go (well_formed s t) refl
   where
     go : (b : Bool) → well_formed s t ≡ b → preview_refusal s t words ≡ commit_refusal s t
@@ -27,5 +27,5 @@ pub entries_beyond : (s : State) (t : List ℕ) → commit_refusal s t ≡ 0 →
 entries_beyond s t ok = ruled_previewed s t ok
 
 -- at most 16 for each round of the ceiling: a list that check 25 lets pass has room for them
-pub room_for_all : (s : State) (t : List ℕ) → commit_refusal s t ≡ 0 → length (preview_entries s t) ≤ 16 * s.settings.ceiling.0
+pub room_for_all : (s : State) (t : List ℕ) → commit_refusal s t ≡ 0 → length (preview_entries s t) ≤ 16 * s.settings.ceiling
 room_for_all s t ok = omega (arith, words-length (preview_entries s t), words-room s t ok)

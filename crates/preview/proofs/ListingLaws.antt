@@ -25,7 +25,7 @@ listed_more k (y ∷ l) x =
 
 module _ (S : Settings) (u : List ℕ) (k : ℕ) where
   abbrev n : ℕ
-  n = S.ceiling.0
+  n = S.ceiling
 
   -- a block as it is listed
   abbrev one : ℕ → ℕ × List Content
@@ -55,11 +55,11 @@ module _ (S : Settings) (u : List ℕ) (k : ℕ) where
 
 -- an accepted commit's chain on the table
 pub chain_previewed : (s : State) (t : List ℕ) → commit_refusal s t ≡ 0
-    → let n = s.settings.ceiling.0 in ListsBeyond s.settings s.blocks (chain_of n t s.blocks) (chain_of n (commit_table_after s t) (commit_state s t).blocks) (preview_entries s t)
+    → let n = s.settings.ceiling in ListsBeyond s.settings s.blocks (chain_of n t s.blocks) (chain_of n (commit_table_after s t) (commit_state s t).blocks) (preview_entries s t)
 unfolding preview_entries
 chain_previewed s t ok =
     let S = s.settings in
-    let n = S.ceiling.0 in
+    let n = S.ceiling in
     let k = s.blocks in
     let u = commit_table_after s t in
     let c = (commit_state s t).blocks in
@@ -73,5 +73,5 @@ chain_previewed s t ok =
 
 -- it is the rules'
 pub ruled_previewed : (s : State) (t : List ℕ) → commit_refusal s t ≡ 0
-    → ListsBeyond s.settings s.blocks (chain_of s.settings.ceiling.0 t s.blocks) (ruled_view s t).chain (preview_entries s t)
+    → ListsBeyond s.settings s.blocks (chain_of s.settings.ceiling t s.blocks) (ruled_view s t).chain (preview_entries s t)
 ruled_previewed s t ok = rw (← ap (λ (v : MemberView s.settings). v.chain) (rules_give s t ok).its_view) (chain_previewed s t ok)

@@ -24,7 +24,7 @@ module _ (s : State) (t : List ℕ) (ok : commit_refusal s t ≡ 0) where
   m = last_round t k
 
   abbrev top : ℕ
-  top = s.round.0 - 1
+  top = s.round - 1
 
   abbrev left : List ℕ
   left = taken_leaders t m top (leaders_for s t)
@@ -45,9 +45,9 @@ module _ (s : State) (t : List ℕ) (ok : commit_refusal s t ≡ 0) where
   words-listed = ap words_of entries-then ∙ told.words
 
   -- a list of three words for each place has room for them
-  pub words-room : length (words_of (preview_entries s t)) ≤ 3 * (16 * s.settings.ceiling.0)
+  pub words-room : length (words_of (preview_entries s t)) ≤ 3 * (16 * s.settings.ceiling)
   words-room =
-      let n = s.settings.ceiling.0 in
+      let n = s.settings.ceiling in
       let w = anchored s t ok in
       let e = words_count t left m n (top - m) k (omega (arith, w.above, w.inside)) in
       let h = places-most (taken t left m (top - m)) n in
@@ -59,5 +59,5 @@ module _ (s : State) (t : List ℕ) (ok : commit_refusal s t ≡ 0) where
       let b = blocks-added s t ok in
       rw (state-then s t ok) (omega arith)
 
-  pub chain-before : chain_of s.settings.ceiling.0 (commit_table_after s t) k ≡ chain_of s.settings.ceiling.0 t k
+  pub chain-before : chain_of s.settings.ceiling (commit_table_after s t) k ≡ chain_of s.settings.ceiling t k
   chain-before = rw (table-then s t ok) told.before

@@ -1,6 +1,6 @@
 -- The checks of a preview, and what is so of an accepted one: its commit would be accepted, and the lent list has room for its words.
 use Rattle.std.proofs.Common.{◌≡◌, refl, sym, ◌∙◌, true, false, not, List, ℕ, ◌-◌, ◌*◌, ◌/◌, ◌≤◌, arith, ltb, length, le-ltb, ltb-false, eq-eqb}
-use lib.Seq.{sets}
+use Rattle.base.proofs.Words.{sets}
 use Rattle.base.specs.Checks.{refusal}
 use Rattle.base.proofs.CheckLaws.{refuses, passes, cleared}
 use Rattle.chain_committees.specs.BlockChanges.{last_round}
@@ -27,17 +27,17 @@ module _ (s : State) (t : List ℕ) where
     preview-unread e = refuses 1 (previewing s t words) (rw e refl)
 
     -- with room enough the checks are those of the commit
-    pub preview-rest : well_formed s t ≡ true → 16 * s.settings.ceiling.0 ≤ words / 3 → preview_refusal s t words ≡ commit_refusal s t
+    pub preview-rest : well_formed s t ≡ true → 16 * s.settings.ceiling ≤ words / 3 → preview_refusal s t words ≡ commit_refusal s t
     unfolding preview_refusal
-    preview-rest e h = passes 1 (previewing s t words) (rw e refl) ∙ passes 25 _ (le-ltb (words / 3) (16 * s.settings.ceiling.0) h) ∙ sym (refusal-by s t e)
+    preview-rest e h = passes 1 (previewing s t words) (rw e refl) ∙ passes 25 _ (le-ltb (words / 3) (16 * s.settings.ceiling) h) ∙ sym (refusal-by s t e)
 
   -- ---- what is so where none refuses
 
   -- the list has room for every place, and the commit would be accepted
-  pub preview-passed : (words : ℕ) → preview_refusal s t words ≡ 0 → (16 * s.settings.ceiling.0 ≤ words / 3) × (commit_refusal s t ≡ 0)
+  pub preview-passed : (words : ℕ) → preview_refusal s t words ≡ 0 → (16 * s.settings.ceiling ≤ words / 3) × (commit_refusal s t ≡ 0)
   unfolding preview_refusal commit_refusal refusal_of
   preview-passed words e =
-      let n = 16 * s.settings.ceiling.0 in
+      let n = 16 * s.settings.ceiling in
       let l = rules.checks s.settings s.own.0 (view s t) rules.commit in
       let p = cleared (not (well_formed s t)) 1 (previewing s t words) (omega arith) e in
       let q = cleared (ltb (words / 3) n) 25 l (omega arith) p.1 in
@@ -53,7 +53,7 @@ module _ (s : State) (t : List ℕ) where
       abbrev words : List ℕ
       words =
           let m = last_round t s.blocks in
-          let top = s.round.0 - 1 in
+          let top = s.round - 1 in
           words_after t (taken_leaders t m top (leaders_for s t)) m (top - m) s.blocks
 
       -- an accepted one writes the words that are listed without committing
@@ -65,5 +65,5 @@ module _ (s : State) (t : List ℕ) where
       pub list_room : length words ≤ length list
       list_room =
           let p = preview-passed (length list) ok in
-          let h : length words ≤ 3 * (16 * s.settings.ceiling.0) = rw (words-listed s t p.1) at (words-room s t p.1) in
+          let h : length words ≤ 3 * (16 * s.settings.ceiling) = rw (words-listed s t p.1) at (words-room s t p.1) in
           omega (arith, p.0)

@@ -1,7 +1,6 @@
 -- A commit, anchor by anchor: after each its table tells what a preview tells without it.
 use Rattle.std.proofs.Common.{◌≡◌, refl, sym, ap, ap₂, ◌∙◌, Bool, true, false, cond, not, ◌&&◌, ◌||◌, List, [], ◌++◌, ℕ, suc, ◌+◌, ◌-◌, ◌<◌, ◌≤◌, arith, add-one, eqb, get_or}
-use mathlib.Core.Bool.{and-true, and_comm}
-use lib.Dec.{eqb-suc-zero}
+use Rattle.base.proofs.Words.{and-true, and_comm, eqb-suc-zero}
 use Rattle.base.specs.Sets.{only}
 use Rattle.agreement.specs.Rules.{Block, Chain}
 use Rattle.agreement.specs.Dag.{is_held}
@@ -46,7 +45,7 @@ mark-low c h x l = go (eqb x 0 && h)
     go false = omega arith
 
 -- a block's certificates in order, where the leader of its round is a
-ordered-by : (S : Settings) (b : Block Content) (e : Chain Content) (r a : ℕ) → b.round ≡ r → leader_by (committee_of S e r) r ≡ a → ordered S b e ≡ rows b a S.ceiling.0
+ordered-by : (S : Settings) (b : Block Content) (e : Chain Content) (r a : ℕ) → b.round ≡ r → leader_by (committee_of S e r) r ≡ a → ordered S b e ≡ rows b a S.ceiling
 unfolding ordered start_of
 ordered-by S b e r a i j = rw (i, j) refl
 
@@ -64,7 +63,7 @@ entries_none S u k = let e : k - k ≡ 0 = omega arith in rw e refl
 
 module _ (S : Settings) (t l : List ℕ) (m top k : ℕ) where
   abbrev n : ℕ
-  n = S.ceiling.0
+  n = S.ceiling
 
   abbrev left : List ℕ
   left = taken_leaders t m top l

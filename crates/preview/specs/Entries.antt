@@ -20,7 +20,7 @@ module _ (S : Settings) (t : List ℕ) where
   -- those of the block after the first k of the chain that the table tells, in the block's order
   abbrev pub block_entries : ℕ → List Entry
   block_entries k =
-      entries_of (suc k) (ordered S (block_at S.ceiling.0 t (suc k)) (chain_of S.ceiling.0 t k))
+      entries_of (suc k) (ordered S (block_at S.ceiling t (suc k)) (chain_of S.ceiling t k))
 
   -- those of the n blocks after the first k, oldest first
   unfoldable pub entries_after : ℕ → ℕ → List Entry

@@ -13,7 +13,7 @@ use Rattle.preview.specs.Entries.{Entry, entries_after, words_of}
 module _ (s : State) (t : List ℕ) where
   -- 25 a list of so many words has fewer than 16 places per round of the ceiling, of three words each; then the checks of commit
   abbrev pub previewing : ℕ → Checks
-  previewing words = (nat_lt (words / 3) (16 * s.settings.ceiling.0), 25)
+  previewing words = (nat_lt (words / 3) (16 * s.settings.ceiling), 25)
       ∷ rules.checks s.settings s.own.0 (view s t) rules.commit
 
   unfoldable pub preview_refusal : ℕ → ℕ

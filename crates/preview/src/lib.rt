@@ -27,8 +27,8 @@ fn check(view: &View, words: usize, leaders: &mut [u32; 1025]) -> Result<(), Ref
     ensures leaders { OnOk result (leaders.new
         ≡ leaders_for view.now.state.now view.now.table.now) }
 {
-    let ceiling = view.state.settings.ceiling.0 as usize;
-    if words / 3 < 16 * ceiling {
+    let ceiling = view.state.settings.ceiling;
+    if words / 3 < 16 * ceiling.0 as usize {
         return Err(Refusal::LengthRange);
     }
     checks::check(view, leaders)
@@ -49,7 +49,8 @@ pub fn preview(state: &State, table: &[u32], list: &mut [u32]) -> Result<u32, Re
         &mut leaders,
     )?;
     let last = bonded::last_round(table, state.blocks);
-    let top = Round(state.round.0 - 1);
+    let round = state.round;
+    let top = Round(round.0 - 1);
     anchors::take_leaders(table, &mut leaders, last, top);
     let put = prospects::list_blocks(table, &leaders, last, top, state.blocks, list);
     Ok((put / 3) as u32)

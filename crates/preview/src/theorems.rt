@@ -10,7 +10,7 @@ ghost use Rattle.state.specs.declared.State.{State};
 /// Where the list is long enough, a preview is refused as a commit would be, with the same number.
 #[tactic(auto, using(crate::proofs::ClaimLaws::refused_as_commit))]
 pub fn refused_as_commit()
-    ensures { (s : State) (t : List ℕ) (words : ℕ) → 16 * s.settings.ceiling.0 ≤ words / 3
+    ensures { (s : State) (t : List ℕ) (words : ℕ) → 16 * s.settings.ceiling ≤ words / 3
         → preview_refusal s t words ≡ commit_refusal s t }
 {}
 
@@ -26,5 +26,5 @@ pub fn entries_beyond()
 #[tactic(auto, using(crate::proofs::ClaimLaws::room_for_all))]
 pub fn room_for_all()
     ensures { (s : State) (t : List ℕ) → commit_refusal s t ≡ 0
-        → length (preview_entries s t) ≤ 16 * s.settings.ceiling.0 }
+        → length (preview_entries s t) ≤ 16 * s.settings.ceiling }
 {}

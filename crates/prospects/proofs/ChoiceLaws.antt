@@ -1,7 +1,6 @@
 -- Laws of a set that is filled member by member with those who pass a test.
 use Rattle.std.proofs.Common.{◌≡◌, refl, ◌∙◌, Bool, true, false, not, cond, ◌&&◌, List, ℕ, zero, suc, ◌+◌, ◌<◌, ◌≤◌, arith, add-one, eqb, ltb, lt-ltb, le-ltb, eq-eqb, ne_eqb}
-use mathlib.Core.Bool.{and-false}
-use native.Mathlib.Decide.{dec_lt, ℕ_discrete}
+use Rattle.base.proofs.Words.{and-false, dec_lt, ℕ_discrete}
 use Rattle.base.specs.Sets.{contains, insert}
 use Rattle.base.specs.Folds.{fold_to}
 use Rattle.base.proofs.Ranges.{fold_none, fold_next}

@@ -1,6 +1,6 @@
 -- What a preview tells, round by round: what anchors reach, the words of their blocks, and how many words these are.
 use Rattle.std.proofs.Common.{◌≡◌, refl, sym, ap, ◌∙◌, Bool, true, false, cond, not, ◌&&◌, ◌||◌, List, [], ◌++◌, append-nil, ℕ, zero, suc, ◌+◌, ◌-◌, ◌*◌, ◌<◌, ◌≤◌, arith, eqb, ltb, get_or, length, length-append, lt-ltb, le-ltb}
-use mathlib.Core.Bool.{or-false}
+use Rattle.base.proofs.Words.{or-false}
 use Rattle.base.specs.Sets.{only}
 use Rattle.store.specs.Table.{mark_at}
 use Rattle.blocks.specs.History.{in_history}

@@ -7,11 +7,20 @@ ghost use Rattle.prospects.specs.Entries.{entry_words, entry_if, row_entries, ro
 
 use terms::{Member, Round};
 
+/// The anchor of a block that would be made, told beside its round.
+#[derive(Debug, Clone, Copy)]
+pub(crate) struct Anchor {
+    /// The block's number.
+    pub block: u32,
+    /// The author of the anchor, with whose entry each round begins.
+    pub author: Member,
+}
+
 // One entry.
 #[tactic(auto, using(crate::proofs::EntryLaws::entry_put))]
 fn put_entry(list: &mut [u32], at: usize, block: u32, author: Member, round: Round) -> usize
     requires { at + 3 ≤ length list.old }
-    ensures { Puts list.old list.new at result (entry_words block round.0 author.0) 3 }
+    ensures { Puts list.old list.new at result (entry_words block round author.0) 3 }
 {
     list[at] = block;
     list[at + 1] = round.0;
@@ -30,10 +39,10 @@ fn put_member(
     round: Round,
 ) -> usize
     requires { (author.0 < 16)
-        × (at + length (entry_if (contains authors author.0) block round.0 author.0)
+        × (at + length (entry_if (contains authors author.0) block round author.0)
         ≤ length list.old) }
-    ensures { Puts list.old list.new at result (entry_if (contains authors author.0) block round.0
-        author.0) (length (entry_if (contains authors author.0) block round.0 author.0)) }
+    ensures { Puts list.old list.new at result (entry_if (contains authors author.0) block round
+        author.0) (length (entry_if (contains authors author.0) block round author.0)) }
 {
     if base::contains(authors, author.0) {
         put_entry(list, at, block, author, round)
@@ -52,10 +61,10 @@ fn put_row(
     round: Round,
 ) -> usize
     requires { (start.0 < 16)
-        × (at + length (row_entries (contains authors) block round.0 start.0 16)
+        × (at + length (row_entries (contains authors) block round start.0 16)
         ≤ length list.old) }
-    ensures { Puts list.old list.new at result (row_entries (contains authors) block round.0 start.0
-        16) (length (row_entries (contains authors) block round.0 start.0 16)) }
+    ensures { Puts list.old list.new at result (row_entries (contains authors) block round start.0
+        16) (length (row_entries (contains authors) block round start.0 16)) }
 {
     let mut to = at;
     for i in 0..16u32 {
@@ -65,20 +74,20 @@ fn put_row(
     to
 }
 
-/// Puts the entries of the rounds above low up to top into the list, by round, from a place on; sets has a set of authors for each round, `block` is the block's number and `author` that of its anchor. The place behind them.
-pub fn put_rows(
+/// Puts the entries of the rounds above low up to top, the anchor's, into the list, by round, from a place on; sets has a set of authors for each round. The place behind them.
+pub(crate) fn put_rows(
     list: &mut [u32],
     at: usize,
     sets: &[u32; 1025],
-    block: u32,
     low: Round,
     top: Round,
-    author: Member,
+    anchor: Anchor,
 ) -> usize
-    requires { RowsFit list.old at sets.now block low.0 top.0 author.0 }
-    ensures { Puts list.old list.new at result (rows_entries (in_sets sets.now) block author.0 low.0
-        (top.0 - low.0))
-        (length (rows_entries (in_sets sets.now) block author.0 low.0 (top.0 - low.0))) }
+    requires { RowsFit list.old at sets.now anchor.block low top anchor.author.0 }
+    ensures { Puts list.old list.new at result (rows_entries (in_sets sets.now) anchor.block
+        anchor.author.0 low (top - low))
+        (length (rows_entries (in_sets sets.now) anchor.block anchor.author.0 low
+        (top - low))) }
 {
     let last = low.0;
     let rounds = top.0 - last;
@@ -86,7 +95,7 @@ pub fn put_rows(
     for i in 0..rounds {
         let r = last + 1 + i;
         let authors = sets[r as usize];
-        to = put_row(list, to, authors, block, author, Round(r));
+        to = put_row(list, to, authors, anchor.block, anchor.author, Round(r));
     }
     to
 }

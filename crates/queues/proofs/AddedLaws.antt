@@ -1,7 +1,6 @@
 -- What guests' queues are after a transaction is added to one.
 use Rattle.std.proofs.Common.{◌≡◌, refl, ap, ◌∙◌, true, cond, List, [], ◌∷◌, ◌++◌, ◌≢◌, ℕ, ◌+◌, ◌<◌, ◌*◌, arith, add-one, eqb, get_or, set, length-set, get_or-set_same, get_or-set_other, eq-eqb, ne_eqb}
-use mathlib.Core.Path.{fun_ext}
-use native.Mathlib.Decide.{dec_lt, ℕ_discrete}
+use Rattle.base.proofs.Words.{fun_ext, dec_lt, ℕ_discrete}
 use Rattle.base.proofs.Ranges.{tab_next}
 use Rattle.base.proofs.FoldLaws.{tab-same}
 use Rattle.terms.specs.declared.Transaction.{Transaction}

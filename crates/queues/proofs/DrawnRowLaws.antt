@@ -1,6 +1,6 @@
 -- A draw that a loop makes, transaction by transaction.
 use Rattle.std.proofs.Common.{◌≡◌, refl, sym, ap, ◌∙◌, true, List, [], ◌∷◌, ◌++◌, append-nil, ℕ, suc, ◌+◌, ◌-◌, ◌<◌, ◌≤◌, arith, length, Some, None}
-use lib.Seq.{append_snoc}
+use Rattle.base.proofs.Words.{append_snoc}
 use Rattle.terms.specs.declared.Transaction.{Transaction}
 use Rattle.terms.specs.declared.Body.{Body}
 use Rattle.terms.specs.Proposals.{bare_body}

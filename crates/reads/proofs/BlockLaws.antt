@@ -1,6 +1,6 @@
 -- Blocks by their numbers: the round of each, and which of them holds a certificate.
 use Rattle.std.proofs.Common.{◌≡◌, refl, sym, ap, ◌∙◌, Bool, true, false, cond, List, ℕ, zero, suc, ◌<◌, ◌≤◌, arith, eqb, eqb-true, length, Option, Some, None}
-use borrow.Author.Tests.{eqb-false}
+use Rattle.base.proofs.Words.{eqb-false}
 use Rattle.agreement.specs.Rules.{Block}
 use Rattle.agreement.specs.Dag.{is_held}
 use Rattle.agreement.specs.Prefixes as chains
@@ -43,10 +43,10 @@ module _ (n : ℕ) (t : List ℕ) where
     in_one_block i j h k = sym (eqb-true (mark_at t a r) i (sym (block_held i) ∙ h)) ∙ eqb-true (mark_at t a r) j (sym (block_held j) ∙ k)
 
     -- so the mark of a held certificate is the number of its block, 0 for none
-    pub mark-number : (k : ℕ) → mark_at t a r ≤ k → block_number (chain_of n t k) a r ≡ mark_at t a r
+    pub mark_number : (k : ℕ) → mark_at t a r ≤ k → block_number (chain_of n t k) a r ≡ mark_at t a r
     unfolding block_number
-    mark-number zero l = rw (chain-none n t) (omega arith)
-    mark-number (suc k) l = rw (chain_more n t k, block_held (suc k), chain_length n t k) (go (eqb (mark_at t a r) (suc k)) refl (λ i. mark-number k i))
+    mark_number zero l = rw (chain-none n t) (omega arith)
+    mark_number (suc k) l = rw (chain_more n t k, block_held (suc k), chain_length n t k) (go (eqb (mark_at t a r) (suc k)) refl (λ i. mark_number k i))
       where
         go : (b : Bool) → eqb (mark_at t a r) (suc k) ≡ b → (mark_at t a r ≤ k → block_number (chain_of n t k) a r ≡ mark_at t a r) → cond b (suc k) (block_number (chain_of n t k) a r) ≡ mark_at t a r
         go true e f = sym (eqb-true (mark_at t a r) (suc k) e)
@@ -57,8 +57,8 @@ module _ (n : ℕ) (t : List ℕ) where
 module _ (s : State) (t : List ℕ) where
   -- how many there are
   pub blocks_shown : length (view s t).chain ≡ s.blocks
-  blocks_shown = chain_length s.settings.ceiling.0 t s.blocks
+  blocks_shown = chain_length s.settings.ceiling t s.blocks
 
   -- the round of each
   pub round_shown : (k : ℕ) → 0 < k → k ≤ s.blocks → round_of (chains.block_numbered (view s t).chain k) ≡ block_round t k
-  round_shown = chain-round s.settings.ceiling.0 t s.blocks
+  round_shown = chain-round s.settings.ceiling t s.blocks

@@ -1,6 +1,6 @@
 -- The claims of every read of a bond's effect that is accepted.
 use Rattle.std.proofs.Common.{◌≡◌, refl, sym, ◌∙◌, List, ℕ, ◌<◌, arith, length, ltb-false, ne_eqb}
-use borrow.Author.Tests.{eqb-false}
+use Rattle.base.proofs.Words.{eqb-false}
 use Rattle.base.proofs.CheckLaws.{numbered}
 use Rattle.base.proofs.Passed.{passed}
 use Rattle.committee.specs.Totals.{total_in}

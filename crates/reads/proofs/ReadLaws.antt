@@ -1,6 +1,6 @@
 -- What an accepted read of a committee has passed.
 use Rattle.std.proofs.Common.{◌≡◌, refl, List, ℕ}
-use borrow.Author.Tests.{not-false}
+use Rattle.base.proofs.Words.{not-false}
 use Rattle.base.proofs.CheckLaws.{numbered}
 use Rattle.base.proofs.Passed.{passed}
 use Rattle.state.specs.declared.State.{State}

@@ -11,7 +11,7 @@ use Rattle.reads.specs.declared.Held.{Held}
 
 -- no proposal, of nobody and no round
 abbrev pub no_proposal : Proposal
-no_proposal = record { author = record { 0 = 0 }; round = record { 0 = 0 }; body = no_body }
+no_proposal = record { author = record { 0 = 0 }; round = 0; body = no_body }
 
 -- a certificate as it is handed out, nothing where there is none
 abbrev pub proposal_shown : Option Content → Proposal

@@ -17,9 +17,9 @@ use terms::{Member, Round};
 #[tactic(auto, unfolding(base::specs::Checks::refusal, crate::specs::Reads::effect_refusal))]
 pub fn effect_of(view: &View, member: Member, round: Round, amount: u32) -> Result<Effect, Refusal>
     ensures refusal { refusal_in result
-        ≡ effect_refusal view.now.state.now view.now.table.now member.0 round.0 amount }
+        ≡ effect_refusal view.now.state.now view.now.table.now member.0 round amount }
     ensures value { IfOk result (λ x. x ≡ effect_read (settings_of view.now) (shown view.now)
-        member.0 round.0 amount) }
+        member.0 round amount) }
 {
     if 15 < member.0 {
         return Err(Refusal::MemberRange);
@@ -51,9 +51,9 @@ pub fn effect(
     amount: u32,
 ) -> Result<Effect, Refusal>
     ensures refusal { refusal_in result
-        ≡ effect_refusal state.now table.now member.0 round.0 amount }
+        ≡ effect_refusal state.now table.now member.0 round amount }
     ensures value { IfOk result (λ x. x ≡ effect_read state.now.settings (view state.now table.now)
-        member.0 round.0 amount) }
+        member.0 round amount) }
 {
     effect_of(
         &View::known(state::well_formed(state, table), &[], state, table)?,

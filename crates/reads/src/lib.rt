@@ -33,12 +33,12 @@ pub struct Held {
 }
 
 /// The certificate of a place, of a state that is known to be well formed. Checks 4, 5 and 23, in this order.
-#[tactic(auto, unfolding(base::specs::Checks::refusal, crate::specs::Reads::certificate_refusal))]
+#[tactic(auto, using(crate::proofs::CertificateReadLaws::of_a_place), unfolding(base::specs::Checks::refusal, crate::specs::Reads::certificate_refusal))]
 pub fn certificate_of(view: &View, author: Member, round: Round) -> Result<Held, Refusal>
     ensures refusal { refusal_in result
-        ≡ certificate_refusal view.now.state.now view.now.table.now author.0 round.0 }
+        ≡ certificate_refusal view.now.state.now view.now.table.now author.0 round }
     ensures value { IfOk result (λ h. h ≡ certificate_read view.now.state.now view.now.table.now
-        author.0 round.0) }
+        author.0 round) }
 {
     if 15 < author.0 {
         return Err(Refusal::MemberRange);
@@ -65,8 +65,8 @@ pub fn certificate(
     author: Member,
     round: Round,
 ) -> Result<Held, Refusal>
-    ensures refusal { refusal_in result ≡ certificate_refusal state.now table.now author.0 round.0 }
-    ensures value { IfOk result (λ h. h ≡ certificate_read state.now table.now author.0 round.0) }
+    ensures refusal { refusal_in result ≡ certificate_refusal state.now table.now author.0 round }
+    ensures value { IfOk result (λ h. h ≡ certificate_read state.now table.now author.0 round) }
 {
     certificate_of(
         &View::known(state::well_formed(state, table), &[], state, table)?,
@@ -80,7 +80,7 @@ pub fn certificate(
 pub fn block_of(view: &View, block: u32) -> Result<Round, Refusal>
     ensures refusal { refusal_in result
         ≡ block_refusal view.now.state.now view.now.table.now block }
-    ensures value { IfOk result (λ r. r.0
+    ensures value { IfOk result (λ r. r
         ≡ block_read (settings_of view.now) (shown view.now) block) }
 {
     if block == 0 || view.state.blocks < block {
@@ -93,7 +93,7 @@ pub fn block_of(view: &View, block: u32) -> Result<Round, Refusal>
 #[tactic(auto, unfolding(base::specs::Checks::refusal, crate::specs::Reads::block_refusal))]
 pub fn block(state: &State, table: &[u32], number: u32) -> Result<Round, Refusal>
     ensures refusal { refusal_in result ≡ block_refusal state.now table.now number }
-    ensures value { IfOk result (λ r. r.0
+    ensures value { IfOk result (λ r. r
         ≡ block_read state.now.settings (view state.now table.now) number) }
 {
     block_of(

@@ -17,9 +17,9 @@ use terms::{Member, Round};
 #[tactic(auto, unfolding(base::specs::Checks::refusal, crate::specs::Reads::committee_refusal))]
 pub fn committee_of(view: &View, round: Round) -> Result<[Weight; 16], Refusal>
     ensures refusal { refusal_in result
-        ≡ committee_refusal view.now.state.now view.now.table.now round.0 }
+        ≡ committee_refusal view.now.state.now view.now.table.now round }
     ensures value { IfOk result (λ w. w
-        ≡ committee_read (settings_of view.now) (shown view.now) round.0) }
+        ≡ committee_read (settings_of view.now) (shown view.now) round) }
 {
     if view.is_bad_round(round) {
         return Err(Refusal::RoundRange);
@@ -33,9 +33,9 @@ pub fn committee_of(view: &View, round: Round) -> Result<[Weight; 16], Refusal>
 /// The committee of a round: sixteen weights, 0 for a non-member. Checks 1, 5 and 8, in this order.
 #[tactic(auto, unfolding(base::specs::Checks::refusal, crate::specs::Reads::committee_refusal))]
 pub fn committee(state: &State, table: &[u32], round: Round) -> Result<[Weight; 16], Refusal>
-    ensures refusal { refusal_in result ≡ committee_refusal state.now table.now round.0 }
+    ensures refusal { refusal_in result ≡ committee_refusal state.now table.now round }
     ensures value { IfOk result (λ w. w
-        ≡ committee_read state.now.settings (view state.now table.now) round.0) }
+        ≡ committee_read state.now.settings (view state.now table.now) round) }
 {
     committee_of(
         &View::known(state::well_formed(state, table), &[], state, table)?,
@@ -47,9 +47,9 @@ pub fn committee(state: &State, table: &[u32], round: Round) -> Result<[Weight; 
 #[tactic(auto, unfolding(base::specs::Checks::refusal, crate::specs::Reads::share_refusal))]
 pub fn share_of(view: &View, member: Member, round: Round) -> Result<u32, Refusal>
     ensures refusal { refusal_in result
-        ≡ share_refusal view.now.state.now view.now.table.now member.0 round.0 }
+        ≡ share_refusal view.now.state.now view.now.table.now member.0 round }
     ensures value { IfOk result (λ n. n ≡ share_read (settings_of view.now) (shown view.now)
-        member.0 round.0) }
+        member.0 round) }
 {
     if 15 < member.0 {
         return Err(Refusal::MemberRange);
@@ -70,9 +70,9 @@ pub fn share_of(view: &View, member: Member, round: Round) -> Result<u32, Refusa
 /// A member's share in the committee of a round, in thousandths. Checks 1, 4, 5, 8 and 9, in this order.
 #[tactic(auto, unfolding(base::specs::Checks::refusal, crate::specs::Reads::share_refusal))]
 pub fn share(state: &State, table: &[u32], member: Member, round: Round) -> Result<u32, Refusal>
-    ensures refusal { refusal_in result ≡ share_refusal state.now table.now member.0 round.0 }
+    ensures refusal { refusal_in result ≡ share_refusal state.now table.now member.0 round }
     ensures value { IfOk result (λ n. n ≡ share_read state.now.settings (view state.now table.now)
-        member.0 round.0) }
+        member.0 round) }
 {
     share_of(
         &View::known(state::well_formed(state, table), &[], state, table)?,

@@ -21,6 +21,7 @@ pub fn effect_bounded()
 {}
 
 /// No share moves further than the largest difference, and one moves as far.
+#[tactic(auto, using(crate::proofs::BoundLaws::none_moves_further, crate::proofs::BoundLaws::one_moves_as_far))]
 pub fn largest_of_all()
     ensures bound { (s : State) (t : List ℕ) (m r a : ℕ) → effect_refusal s t m r a ≡ 0 → (i : ℕ)
         → i < 16
@@ -42,6 +43,7 @@ pub fn effect_of_shares()
 {}
 
 /// The share of a number that is no member is 0, and stays 0 unless it is the one that bonds.
+#[tactic(auto, using(crate::proofs::BoundLaws::none_before, crate::proofs::BoundLaws::none_after))]
 pub fn none_without_weight()
     ensures before { (s : State) (t : List ℕ) (m r a i : ℕ) → effect_refusal s t m r a ≡ 0 → i < 16
         → committee_in s.settings (view s t) r i ≡ 0
@@ -52,6 +54,7 @@ pub fn none_without_weight()
 {}
 
 /// A held certificate is in at most one block, and its mark is the number of that block, 0 for none.
+#[tactic(auto, using(crate::proofs::BlockLaws::in_one_block, crate::proofs::BlockLaws::mark_number))]
 pub fn in_one_block()
     ensures once { (n : ℕ) (t : List ℕ) (a r : ℕ) → 0 < r → r ≤ n → held_at t a r ≡ true
         → (i j : ℕ) → is_held ((block_at n t i).holds a r) ≡ true

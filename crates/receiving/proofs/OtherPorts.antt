@@ -1,6 +1,6 @@
 -- What a caller asks leaves every other guest's port as it was.
 use Rattle.std.proofs.Common.{◌≡◌, refl, sym, ap, ◌∙◌, Bool, true, false, cond, List, [], ◌∷◌, ◌++◌, ◌⊎◌, inl, inr, ◌≢◌, ℕ, ◌<◌, eqb, length, Option, Some, None}
-use native.Mathlib.Decide.{ℕ_discrete}
+use Rattle.base.proofs.Words.{ℕ_discrete}
 use Rattle.base.specs.Options.{if_there}
 use Rattle.terms.specs.declared.Certificate.{Certificate}
 use Rattle.serial.specs.Calls.{Access, PortCall, access, port_of}

@@ -1,7 +1,6 @@
 -- What was read from a port since it was reset is a prefix of the listing, over every list of requests.
 use Rattle.std.proofs.Common.{◌≡◌, refl, sym, ap, ◌∙◌, subst, Bool, true, false, cond, not, ◌&&◌, List, [], ◌∷◌, ◌++◌, ◌≢◌, ℕ, ◌<◌, arith, eqb, leb, ltb, length, get_or, length-append, eq-eqb, ne_eqb, eqb-true, ltb-true, Option, Some, None}
-use native.Mathlib.Decide.{ℕ_discrete}
-use borrow.Author.Tests.{not-true}
+use Rattle.base.proofs.Words.{ℕ_discrete, not-true}
 use Rattle.base.specs.Options.{if_there}
 use Rattle.base.proofs.Bools.{both}
 use Rattle.terms.specs.declared.Member.{Member}

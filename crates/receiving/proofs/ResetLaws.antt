@@ -37,7 +37,7 @@ resets e g a =
 cleared : (e : Engine) (own : Member) (sheet : Sheet) (g : ℕ) → g < 8 → port_on (renewed e (opens own sheet)) g ≡ reset_port
 unfolding port_in bytes_read reset_port
 cleared e own sheet g h =
-    let n = (filled sheet).ceiling.0 in
+    let n = (filled sheet).ceiling in
     rw (
       cleared-words e.table n g 0 h (omega arith),
       cleared-words e.table n g 1 h (omega arith),

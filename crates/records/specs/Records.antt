@@ -16,7 +16,7 @@ use Rattle.records.specs.Triples.{from_kind}
 
 -- a proposal with an author and a round
 abbrev pub proposal_of : ℕ → ℕ → Body → P.Proposal
-proposal_of a r b = record { author = record { 0 = a }; round = record { 0 = r }; body = b }
+proposal_of a r b = record { author = record { 0 = a }; round = r; body = b }
 
 -- no field is left
 abbrev pub ended_as : List (List ℕ) → Record → Option Record

@@ -1,7 +1,9 @@
 -- The numbers of refusals.
 use Rattle.std.specs.Prelude.{ℕ, ◌+◌, ◌*◌, Result, Ok, Err}
 use Rattle.refusals.specs.declared.Refusal.{Refusal}
-use Rattle.refusals.specs.declared.Refusal.TheVariants.{Malformed, SettingRange, NoWeight, MemberRange, RoundRange, TransactionsRange, PreviousEmpty, CommitteeUnknown, Outside, PlaceTaken, PreviousMissing, PreviousQuorum, SignersShort, SignedTwice, NoProposal, SameHeld, OtherHeld, AtCeiling, NoCommitRound, BlockMade, NoAnchor, VotesShort, NoneThere, Unreadable, LengthRange, GuestRange, QueueFull, ThinRound, NoRight, EmptyCommittee, OffsetRange}
+use Rattle.refusals.specs.declared.Refusal.TheVariants.{Malformed, SettingRange, NoWeight, MemberRange, RoundRange, TransactionsRange, PreviousEmpty, CommitteeUnknown, Outside, PlaceTaken, PreviousMissing}
+use Rattle.refusals.specs.declared.Refusal.TheVariants.{PreviousQuorum, SignersShort, SignedTwice, NoProposal, SameHeld, OtherHeld, AtCeiling, NoCommitRound, BlockMade, NoAnchor, VotesShort}
+use Rattle.refusals.specs.declared.Refusal.TheVariants.{NoneThere, Unreadable, LengthRange, GuestRange, QueueFull, ThinRound, NoRight, EmptyCommittee, OffsetRange}
 
 -- the number of a refusal
 abbrev pub number_of : Refusal → ℕ

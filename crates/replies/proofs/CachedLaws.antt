@@ -1,6 +1,6 @@
 -- Laws of what is cached beside a state: one that is not well formed, and one after a commit.
 use Rattle.std.proofs.Common.{◌≡◌, refl, sym, ◌∙◌, Bool, true, false, List, ◌≢◌, ℕ, arith}
-use mathlib.Core.Bool.{false≢true}
+use Rattle.base.proofs.Words.{false≢true}
 use Rattle.state.specs.declared.State.{State}
 use Rattle.state.specs.WellFormed.{well_formed}
 use Rattle.state.proofs.FormedLaws.{formed}

@@ -1,9 +1,8 @@
 -- A number in decimal reads back as itself: it has no leading zeros, and its digits make it.
 use Rattle.std.proofs.Common.{◌≡◌, refl, sym, ◌∙◌, ap, ℕ, zero, suc, ◌+◌, ◌*◌, ◌-◌, ◌/◌, ◌%◌, ◌≤◌, ◌<◌, Bool, true, false, cond, List, [], ◌∷◌, ◌++◌, length, get_or, length-append, Option, None, Some, ◌⊎◌, inl, inr, arith, le-leb, ne_eqb}
-use lib.ListN.{get_or-append}
+use Rattle.base.proofs.Words.{get_or-append, dec_lt}
 use Rattle.std.specs.Option.{option_and_then}
 use Rattle.std.specs.Char.{is_ascii_digit}
-use native.Mathlib.Decide.{dec_lt}
 use Rattle.records.specs.Numbers.{at_most, digits_after, number_in}
 use Rattle.listing.specs.Lines.{decimal}
 use Rattle.listing.proofs.LineLaws.{decimal-small, decimal-more}

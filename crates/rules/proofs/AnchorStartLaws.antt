@@ -12,7 +12,7 @@ use Rattle.terms.specs.declared.sheet.Settings.{Settings}
 use Rattle.terms.specs.Ranges.{weight_in}
 use Rattle.committee.specs.Committees.{leader_by, committee_of, start_of}
 use Rattle.committee.specs.Leaders.{leader_of}
-use Rattle.committee.proofs.Lawful.{committee-below}
+use Rattle.committee.proofs.Lawful.{committee_below}
 use Rattle.committee.specs.Instance.{rules}
 use Rattle.terms.specs.declared.sheet.Weight.{Weight}
 use Rattle.rules.specs.Tests.{MemberView}
@@ -71,7 +71,7 @@ module _ (S : Settings) {correct : ℕ → Bool} {G : Log (rules S)} {k : ℕ} {
       placed = I.storing.place seen.held
 
       start : start_of S b c ≡ seen.lead
-      start = ap (λ (w : List Weight). unwrap_or (leader_of (weight_in w) b.round) 16) (sym (committee-below S below.1) ∙ ap (λ (d : Chain Content). committee_of S d b.round) (sym e)) ∙ ap (λ (o : Option ℕ). unwrap_or o 16) seen.leads
+      start = ap (λ (w : List Weight). unwrap_or (leader_of (weight_in w) b.round) 16) (sym (committee_below S below.1) ∙ ap (λ (d : Chain Content). committee_of S d b.round) (sym e)) ∙ ap (λ (o : Option ℕ). unwrap_or o 16) seen.leads
 
       inside : b.holds seen.lead b.round ≡ Some x
       inside = (link.content seen.lead b.round x).1 (record { by = placed.0; at = placed.1; reached = here; unused = λ h. absurd (omega (arith, in_low c below.0.3 x h, placed.1, link.spaced)) })

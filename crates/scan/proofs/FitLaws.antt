@@ -1,7 +1,6 @@
 -- Which writes keep well-formed rows well formed.
 use Rattle.std.proofs.Common.{◌≡◌, refl, sym, ap, ◌∙◌, Bool, true, false, not, ◌||◌, true≢false, List, ℕ, ◌<◌, ◌≤◌, arith, ltb, length, ltb-false}
-use native.Mathlib.Decide.{ℕ_discrete}
-use borrow.Author.Tests.{not-false}
+use Rattle.base.proofs.Words.{ℕ_discrete, not-false}
 use Rattle.base.specs.Folds.{all_to}
 use Rattle.base.proofs.TestLaws.{all-at}
 use Rattle.base.specs.Sets.{contains}

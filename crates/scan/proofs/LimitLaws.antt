@@ -1,8 +1,6 @@
 -- Laws of the limits for the words of a transaction.
 use Rattle.std.proofs.Common.{◌≡◌, refl, sym, ◌∙◌, Bool, true, false, cond, ◌&&◌, not, List, ℕ, zero, suc, ◌+◌, ◌%◌, ◌<◌, ◌≤◌, arith, get_or, eqb, leb, ltb, le-ltb, lt-ltb, le-leb, leb-true, leb-false, ne_eqb, eq-eqb, ltb-true, ltb-false}
-use mathlib.Core.Bool.{and-false, and_comm}
-use native.Mathlib.Decide.{ℕ_discrete}
-use borrow.Author.Tests.{lt-leb}
+use Rattle.base.proofs.Words.{and-false, and_comm, ℕ_discrete, lt-leb}
 use Rattle.base.specs.Folds.{all_to}
 use Rattle.base.specs.Sets.{contains}
 use Rattle.base.proofs.TestLaws.{all-high, all_same}

@@ -1,6 +1,6 @@
 -- What well-formed rows are, by their parts.
 use Rattle.std.proofs.Common.{◌≡◌, refl, Bool, true, false, not, cond, ◌&&◌, List, ◌≢◌, ℕ, zero, suc, ◌+◌, ◌<◌, ◌≤◌, arith, add-one, eqb, leb, ltb, ltb-true, lt-ltb, le-ltb, leb-true, le-leb}
-use borrow.Author.Tests.{not-true}
+use Rattle.base.proofs.Words.{not-true}
 use Rattle.base.proofs.Bools.{both}
 use Rattle.base.specs.Folds.{all_to}
 use Rattle.base.proofs.TestLaws.{all-at, all_hold}

@@ -49,8 +49,8 @@ fn transaction_fits(
     count: u32,
     index: u32,
 ) -> bool
-    requires { Scannable table.now limits.now author.0 round.0 index 3 }
-    ensures { result ≡ (if nat_lt index count then transaction_fits table.now author.0 round.0 index
+    requires { Scannable table.now limits.now author.0 round index 3 }
+    ensures { result ≡ (if nat_lt index count then transaction_fits table.now author.0 round index
         else true) }
 {
     let kind = store::record::kind_at(table, author, round, index);
@@ -62,9 +62,9 @@ fn transaction_fits(
 // Are those of the four slots of a record of `count` transactions in range that are there? All four are looked at.
 #[tactic(auto, unfolding(base::specs::Folds::all_to))]
 fn slots_fit(table: &[u32], limits: &[u32; 15], author: Member, round: Round, count: u32) -> bool
-    requires { Scannable table.now limits.now author.0 round.0 count 4 }
+    requires { Scannable table.now limits.now author.0 round count 4 }
     ensures { result
-        ≡ all_to (λ k. if nat_lt k count then transaction_fits table.now author.0 round.0 k
+        ≡ all_to (λ k. if nat_lt k count then transaction_fits table.now author.0 round k
         else true) 4 }
 {
     (0..4).all(|k| transaction_fits(table, limits, author, round, count, k))
@@ -79,8 +79,8 @@ fn transactions_fit(
     round: Round,
     count: u32,
 ) -> bool
-    requires { Scannable table.now limits.now author.0 round.0 count 4 }
-    ensures { result ≡ all_to (transaction_fits table.now author.0 round.0) count }
+    requires { Scannable table.now limits.now author.0 round count 4 }
+    ensures { result ≡ all_to (transaction_fits table.now author.0 round) count }
 {
     count == 0 || slots_fit(table, limits, author, round, count)
 }
@@ -88,8 +88,8 @@ fn transactions_fit(
 // Are the endorsers of a record a set of members, the author not among them?
 #[tactic(auto, using(crate::proofs::LimitLaws::low_bits), unfolding(crate::specs::Scan::endorsers_fit, store::specs::Table::endorsers_at))]
 fn endorsers_fit(table: &[u32], author: Member, round: Round) -> bool
-    requires { Within table.now author.0 round.0 }
-    ensures { result ≡ endorsers_fit table.now author.0 round.0 }
+    requires { Within table.now author.0 round }
+    ensures { result ≡ endorsers_fit table.now author.0 round }
 {
     let endorsers = store::record::word_at(table, author, round, 3);
     endorsers < 65536 && !base::contains(endorsers, author.0)
@@ -105,8 +105,8 @@ fn record_fits(
     author: Member,
     round: Round,
 ) -> bool
-    requires { Within table.now author.0 round.0 × (limits.now ≡ limit_table) }
-    ensures { result ≡ record_fits table.now allowance blocks author.0 round.0 }
+    requires { Within table.now author.0 round × (limits.now ≡ limit_table) }
+    ensures { result ≡ record_fits table.now allowance blocks author.0 round }
 {
     store::record::word_at(table, author, round, 1) <= allowance
         && transactions_fit(
@@ -132,8 +132,8 @@ fn place_fits(
     author: Member,
     round: Round,
 ) -> bool
-    requires { Within table.now author.0 round.0 × (limits.now ≡ limit_table) }
-    ensures { result ≡ place_fits table.now allowance blocks round.0 author.0 }
+    requires { Within table.now author.0 round × (limits.now ≡ limit_table) }
+    ensures { result ≡ place_fits table.now allowance blocks round author.0 }
 {
     !store::held(table, author, round)
         || record_fits(table, limits, allowance, blocks, author, round)
@@ -142,8 +142,8 @@ fn place_fits(
 // Are the sixteen places of a round well formed?
 #[tactic(auto, unfolding(base::specs::Folds::all_to))]
 fn places_fit(table: &[u32], limits: &[u32; 15], allowance: u32, blocks: u32, round: Round) -> bool
-    requires { Row table.now round.0 × (limits.now ≡ limit_table) }
-    ensures { result ≡ all_to (place_fits table.now allowance blocks round.0) 16 }
+    requires { Row table.now round × (limits.now ≡ limit_table) }
+    ensures { result ≡ all_to (place_fits table.now allowance blocks round) 16 }
 {
     (0..16).all(|m| place_fits(table, limits, allowance, blocks, Member(m), round))
 }
@@ -151,8 +151,8 @@ fn places_fit(table: &[u32], limits: &[u32; 15], allowance: u32, blocks: u32, ro
 // Is a row well formed: its sets are sets of members, and each held certificate's record is well formed?
 #[tactic(auto, unfolding(crate::specs::Scan::row_fits), using(crate::proofs::ScanLaws::free_row))]
 fn row_fits(table: &[u32], limits: &[u32; 15], allowance: u32, blocks: u32, round: Round) -> bool
-    requires { Row table.now round.0 × (limits.now ≡ limit_table) }
-    ensures { result ≡ row_fits table.now allowance blocks round.0 }
+    requires { Row table.now round × (limits.now ≡ limit_table) }
+    ensures { result ≡ row_fits table.now allowance blocks round }
 {
     let held = store::held_set(table, round);
     held < 65536
@@ -163,8 +163,8 @@ fn row_fits(table: &[u32], limits: &[u32; 15], allowance: u32, blocks: u32, roun
 /// Are the rows of the rounds 1 to `ceiling`, at most 1,024, well formed for an allowance and a number of blocks?
 #[tactic(auto, unfolding(crate::specs::Scan::rows_fit, base::specs::Folds::all_to))]
 pub fn rows_fit(table: &[u32], allowance: u32, blocks: u32, ceiling: Round) -> bool
-    requires { Row table.now ceiling.0 × (ceiling.0 ≤ 1024) }
-    ensures { result ≡ rows_fit table.now allowance blocks ceiling.0 }
+    requires { Row table.now ceiling × (ceiling ≤ 1024) }
+    ensures { result ≡ rows_fit table.now allowance blocks ceiling }
 {
     let l = limits();
     (0..ceiling.0).all(|r| row_fits(table, &l, allowance, blocks, Round(r + 1)))

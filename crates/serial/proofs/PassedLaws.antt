@@ -1,6 +1,6 @@
 -- What an accepted access or reset has passed; and check 1 after the checks before it.
 use Rattle.std.proofs.Common.{◌≡◌, refl, sym, ◌∙◌, true, not, true≢false, List, [], ◌∷◌, ◌++◌, ◌≢◌, ℕ, ◌<◌, arith, ltb-false}
-use borrow.Author.Tests.{not-false}
+use Rattle.base.proofs.Words.{not-false}
 use Rattle.base.specs.Checks.{Checks, refusal}
 use Rattle.base.proofs.CheckLaws.{numbered, passes, passes-all, first-refuses, first_passes}
 use Rattle.base.proofs.Passed.{passed}

@@ -1,6 +1,6 @@
 -- What a table tells of ports and queues after the words of a port are put: the port is that one, all others and all queues are as they were.
 use Rattle.std.proofs.Common.{◌≡◌, refl, ap, true, ◌&&◌, List, ◌≢◌, ℕ, ◌+◌, ◌*◌, ◌<◌, ◌≤◌, arith, leb, length, get_or, le-leb}
-use native.Mathlib.Decide.{ℕ_discrete, dec_lt}
+use Rattle.base.proofs.Words.{ℕ_discrete, dec_lt}
 use Rattle.base.proofs.PasteLaws.{paste-below, paste-inside, paste-above}
 use Rattle.base.proofs.TestLaws.{all-at, all_hold}
 use Rattle.terms.specs.declared.sheet.Settings.{Settings}
@@ -11,7 +11,7 @@ use Rattle.queues.specs.Words.{served_word, waiting_count, place_start}
 use Rattle.queues.proofs.WordLaws.{SameQueues}
 use Rattle.listing.specs.Listing.{chain_lines}
 use Rattle.ports.specs.Places.{lines_of}
-use Rattle.ports.proofs.PlaceLaws.{text-lines}
+use Rattle.ports.proofs.PlaceLaws.{text_lines}
 use Rattle.ports.proofs.OnceLaws.{once-chain}
 use Rattle.ports.proofs.BackLaws.{count-back}
 use Rattle.ports.specs.Uart.{Port, registers_fit}
@@ -55,8 +55,8 @@ module _ (S : Settings) (t : List ℕ) (blocks g : ℕ) (row : Row t 0) (guest :
 
   -- ---- the listing
 
-  chain-put : chain_of S.ceiling.0 u blocks ≡ chain_of S.ceiling.0 t blocks
-  chain-put = chain-only only-put S.ceiling.0 blocks
+  chain-put : chain_of S.ceiling u blocks ≡ chain_of S.ceiling t blocks
+  chain-put = chain-only only-put S.ceiling blocks
 
   pub lines-put : placed_lines S u blocks ≡ placed_lines S t blocks
   lines-put = ap (lines_of S) chain-put
@@ -96,7 +96,7 @@ module _ (S : Settings) (t : List ℕ) (blocks g : ℕ) (row : Row t 0) (guest :
           word-inside 5 (omega arith),
           word-inside 6 (omega arith),
           word-inside 7 (omega arith),
-          count-back (placed_lines S t blocks) (once-chain S t blocks) p.read (omega (arith, read, ap length (text-lines S (chain_of S.ceiling.0 t blocks)))),
+          count-back (placed_lines S t blocks) (once-chain S t blocks) p.read (omega (arith, read, ap length (text_lines S (chain_of S.ceiling t blocks)))),
         )
         refl
 

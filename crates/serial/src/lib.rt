@@ -6,6 +6,7 @@
 ghost use Rattle.std.specs.Prelude.{◌≡◌, true, IfOk};
 ghost use Rattle.base.specs.Checks.{refusal};
 ghost use Rattle.refusals.specs.Refusals.{refusal_in};
+ghost use Rattle.state.specs.Cached.{Cached};
 ghost use Rattle.state.specs.WellFormed.{well_formed};
 ghost use Rattle.serial.specs.Calls.{access, reset, read, write};
 ghost use Rattle.serial.specs.Serial.{access_checks, reset_checks, port_refusal, port_table, register};
@@ -39,17 +40,24 @@ pub fn check_reset(port: u32) -> Result<(), Refusal>
     Ok(())
 }
 
-/// A read of a port at an offset, where the state is well formed.
+/// A read of a port at an offset, where the state is well formed and committees may be cached.
 #[tactic(auto, unfolding(base::specs::Checks::refusal, state::specs::Answers::if_accepted, crate::specs::Serial::port_refusal, crate::specs::Serial::register, crate::specs::Serial::ported_table, crate::specs::Serial::port_table))]
-pub fn read_formed(state: &State, table: &mut [u32], port: u32, offset: u32) -> Result<u32, Refusal>
-    requires { well_formed state.now table.old ≡ true }
+pub fn read_formed(
+    cache: &[u64],
+    state: &State,
+    table: &mut [u32],
+    port: u32,
+    offset: u32,
+) -> Result<u32, Refusal>
+    requires { Cached state.now table.old true cache.now }
     ensures refusal { refusal_in result
         ≡ port_refusal state.now table.old (access port (read offset)) }
     ensures value { IfOk result (λ v. v ≡ register state.now table.old port offset) }
     ensures table { table.new ≡ port_table state.now table.old (access port (read offset)) }
 {
     check_access(port, offset)?;
-    Ok(registers::read(table, &state.settings, state.blocks, port, offset))
+    let settings = &state.settings;
+    Ok(registers::read(cache, table, settings, state.blocks, port, offset))
 }
 
 /// A write of a byte there, where the state is well formed.
@@ -95,7 +103,7 @@ pub fn read(state: &State, table: &mut [u32], port: u32, offset: u32) -> Result<
     if !state::well_formed(state, table) {
         return Err(Refusal::Malformed);
     }
-    read_formed(state, table, port, offset)
+    read_formed(&[], state, table, port, offset)
 }
 
 /// A write of a byte there.

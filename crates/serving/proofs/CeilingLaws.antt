@@ -30,11 +30,11 @@ only-last false false false false p = absurd (omega (arith, p))
 pub serves_to_64 : (t : List ℕ) → length t ≡ table_length → (own : Member) (S : Settings) → ServesTo64 t own S
 unfolding open_refusal
 serves_to_64 t l own S =
-    let short = ltb (length t) (used_length S.ceiling.0) in
+    let short = ltb (length t) (used_length S.ceiling) in
     record {
-      above = λ p h. last-answers (ltb 15 own.0) (out_of_range S) (weightless S) short p (lt-ltb (length t) (used_length S.ceiling.0) (omega (arith, l, h)));
+      above = λ p h. last-answers (ltb 15 own.0) (out_of_range S) (weightless S) short p (lt-ltb (length t) (used_length S.ceiling) (omega (arith, l, h)));
       only_above = λ p.
           let q = only-last (ltb 15 own.0) (out_of_range S) (weightless S) short p in
-          let k = ltb-true (length t) (used_length S.ceiling.0) q.1 in
+          let k = ltb-true (length t) (used_length S.ceiling) q.1 in
           (q.0, omega (arith, l, k));
     }

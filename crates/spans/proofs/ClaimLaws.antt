@@ -1,6 +1,6 @@
 -- The claims of what blocks hold.
 use Rattle.std.proofs.Common.{◌≡◌, refl, ap, sym, ◌∙◌, true, cond, List, [], ◌∷◌, ◌++◌, map, append_assoc, append-nil, ℕ, zero, suc, ◌+◌, ◌*◌, ◌/◌, ◌%◌, ◌≤◌, arith, add-one, eqb, length, le-ltb, eq-eqb, ne_eqb, Option, Some, None}
-use native.Mathlib.Decide.{ℕ_discrete}
+use Rattle.base.proofs.Words.{ℕ_discrete}
 use Rattle.base.specs.Folds.{tab}
 use Rattle.base.proofs.Ranges.{tab_none, tab_next}
 use Rattle.base.proofs.FoldLaws.{tab-same}
@@ -96,20 +96,20 @@ module _ (t : List ℕ) (k p : ℕ) where
       go (no e) = rw (ne_eqb (mark_at t (p % 16) (p / 16)) k e, holds-other t k (p % 16) (p / 16) e) (omega arith)
 
 module _ (S : Settings) (t : List ℕ) (blocks m : ℕ) where
-  counted-most : (n : ℕ) → m + n ≤ blocks → chain_count S.ceiling.0 t m + count_after S (chain_of S.ceiling.0 t blocks) m n ≤ chain_count S.ceiling.0 t (m + n)
+  counted-most : (n : ℕ) → m + n ≤ blocks → chain_count S.ceiling t m + count_after S (chain_of S.ceiling t blocks) m n ≤ chain_count S.ceiling t (m + n)
   counted-most zero h = let e : m + 0 ≡ m = omega arith in rw e (omega (arith, count-none S t blocks m))
   counted-most (suc n) h =
-      let c = S.ceiling.0 in
+      let c = S.ceiling in
       let e : m + suc n ≡ m + n + 1 = omega arith in
       let p = counted-most n (omega arith) in
       let q = rows_length t (m + n + 1) (start_at S t (m + n)) c in
       let u = sum_mono (held_count t (m + n + 1)) (in_block t (m + n + 1)) (c * 16 + 16) (λ i _. place-most t (m + n + 1) i) in
       rw (e, ← add-one n) (omega (arith, count_more c t (m + n), count-next S t blocks m n (omega arith)))
 
-pub room_for_all : (s : State) (t : List ℕ) (m n words : ℕ) → well_formed s t ≡ true → m + n ≤ s.blocks → 16 * s.settings.ceiling.0 + 16 ≤ words / 18 → blocks_refusal s t m n words ≡ 0
+pub room_for_all : (s : State) (t : List ℕ) (m n words : ℕ) → well_formed s t ≡ true → m + n ≤ s.blocks → 16 * s.settings.ceiling + 16 ≤ words / 18 → blocks_refusal s t m n words ≡ 0
 unfolding blocks_refusal
 room_for_all s t m n words w h l =
-    let c = s.settings.ceiling.0 in
+    let c = s.settings.ceiling in
     let f = counted-most s.settings t s.blocks m n h in
     let g = count_all c t (m + n) in
     passes 1 (reading_blocks s t m n words) (rw w refl)

@@ -1,7 +1,6 @@
 -- Laws of what blocks in a row hold, block by block.
 use Rattle.std.proofs.Common.{◌≡◌, refl, ◌∙◌, Bool, true, false, cond, List, [], ◌++◌, map, ℕ, zero, suc, ◌+◌, ◌-◌, ◌<◌, ◌≤◌, arith, add-one, eqb, eqb-true, length, length-append}
-use borrow.Author.Tests.{eqb-false}
-use lib.ListN.{length-map}
+use Rattle.base.proofs.Words.{eqb-false, length-map}
 use Rattle.agreement.specs.Rules.{Chain}
 use Rattle.terms.specs.Proposals.{Content}
 use Rattle.terms.specs.declared.sheet.Settings.{Settings}
@@ -26,22 +25,22 @@ held_counted S c t m (suc n) =
 
 module _ (S : Settings) (t : List ℕ) where
   -- the block after the first k, of a chain of n
-  pub contents-held : (n k : ℕ) → k < n → contents_of S (chain_of S.ceiling.0 t n) (suc k) ≡ block_held S t k
+  pub contents-held : (n k : ℕ) → k < n → contents_of S (chain_of S.ceiling t n) (suc k) ≡ block_held S t k
   unfolding contents_of start_at
   contents-held zero k h = absurd (omega arith)
-  contents-held (suc n) k h = rw (chain_more S.ceiling.0 t n, chain_length S.ceiling.0 t n) (go (eqb (suc k) (suc n)) refl (λ i. contents-held n k i))
+  contents-held (suc n) k h = rw (chain_more S.ceiling t n, chain_length S.ceiling t n) (go (eqb (suc k) (suc n)) refl (λ i. contents-held n k i))
     where
-      own : ordered S (block_at S.ceiling.0 t (suc k)) (chain_of S.ceiling.0 t k) ≡ block_held S t k
-      own = ordered-rows S (block_at S.ceiling.0 t (suc k)) (chain_of S.ceiling.0 t k) ∙ rw (← add-one k) (rows_by t (k + 1) (start_at S t k) S.ceiling.0 S.ceiling.0 (omega arith))
+      own : ordered S (block_at S.ceiling t (suc k)) (chain_of S.ceiling t k) ≡ block_held S t k
+      own = ordered-rows S (block_at S.ceiling t (suc k)) (chain_of S.ceiling t k) ∙ rw (← add-one k) (rows_by t (k + 1) (start_at S t k) S.ceiling S.ceiling (omega arith))
 
-      go : (b : Bool) → eqb (suc k) (suc n) ≡ b → (k < n → contents_of S (chain_of S.ceiling.0 t n) (suc k) ≡ block_held S t k)
-          → ◌≡◌ {A = List Content} (cond b (ordered S (block_at S.ceiling.0 t (suc n)) (chain_of S.ceiling.0 t n)) (contents_of S (chain_of S.ceiling.0 t n) (suc k))) (block_held S t k)
+      go : (b : Bool) → eqb (suc k) (suc n) ≡ b → (k < n → contents_of S (chain_of S.ceiling t n) (suc k) ≡ block_held S t k)
+          → ◌≡◌ {A = List Content} (cond b (ordered S (block_at S.ceiling t (suc n)) (chain_of S.ceiling t n)) (contents_of S (chain_of S.ceiling t n) (suc k))) (block_held S t k)
       go true e f = let q = eqb-true (suc k) (suc n) e in let p : n ≡ k = omega arith in rw p own
       go false e f = let d = eqb-false (suc k) (suc n) e in f (omega arith)
 
 module _ (S : Settings) (t : List ℕ) (blocks m : ℕ) where
   abbrev C : Chain Content
-  C = chain_of S.ceiling.0 t blocks
+  C = chain_of S.ceiling t blocks
 
   pub count-none : 0 ≡ count_after S C m 0
   unfolding count_after

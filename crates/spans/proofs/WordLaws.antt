@@ -2,9 +2,8 @@
 use Rattle.std.proofs.Common.{◌≡◌, refl, ap, sym, ◌∙◌, true, List, [], ◌∷◌, ◌++◌, map, append_assoc, append-nil, ℕ, ◌+◌, ◌-◌, ◌/◌, ◌%◌, ◌≤◌, arith, length, length-append, take, drop, take_all}
 use Rattle.std.proofs.lemmas.List.{map-append}
 use Rattle.std.proofs.lemmas.Slice.{put_mid-paste}
-use borrow.Rule.Slice.PartMut.{mid_of, put_mid, mid_len}
+use Rattle.base.proofs.Words.{mid_of, put_mid, mid_len, paste, sets, sets-eq}
 use Rattle.std.proofs.lemmas.List.{drop_all}
-use lib.Seq.{paste, sets, sets-eq}
 use Rattle.terms.specs.Proposals.{Content}
 use Rattle.terms.specs.declared.Proposal.{Proposal}
 use Rattle.reads.specs.declared.Held.{Held}
@@ -22,7 +21,7 @@ use Rattle.spans.proofs.RowLaws.{held_present}
 pub held-length : (p : Proposal) (d k : ℕ) → length (held_words p d k) ≡ held_length
 unfolding held_words
 held-length p d k =
-    let head = p.author.0 ∷ p.round.0 ∷ [] in
+    let head = p.author.0 ∷ p.round ∷ [] in
     rw (length-append (head ++ body_words p.body) (d ∷ k ∷ []), length-append head (body_words p.body), length-body p.body) refl
 
 -- as many words as a stretch is long, put over it

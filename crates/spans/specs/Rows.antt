@@ -24,7 +24,7 @@ row_held t k a r = places_over (add_held t k) a r []
 
 -- what the block after the first k holds, each row from the leader of the block's round on
 abbrev pub block_held : Settings → List ℕ → ℕ → List Content
-block_held S t k = rows_over (add_held t (k + 1)) (start_at S t k) S.ceiling.0 []
+block_held S t k = rows_over (add_held t (k + 1)) (start_at S t k) S.ceiling []
 
 -- from a place of a list on there is room for the words of these certificates
 abbrev pub HeldFits : List ℕ → ℕ → List Content → Type 0

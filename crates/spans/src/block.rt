@@ -5,12 +5,17 @@
 ghost use Rattle.std.specs.Prelude.{◌≡◌, ◌+◌, ◌*◌, ◌/◌, ◌<◌, ◌≤◌, length};
 ghost use Rattle.base.specs.Puts.{Puts};
 ghost use Rattle.store.specs.Table.{Row};
+ghost use Rattle.chain_committees.specs.BlockChanges.{start_at};
+ghost use Rattle.chain_committees.specs.Caches.{Caches};
+ghost use Rattle.chain_committees.specs.Told.{blocks_in};
 ghost use Rattle.words.specs.Lengths.{held_length};
 ghost use Rattle.words.specs.Proposals.{held_words};
 ghost use Rattle.spans.specs.Rows.{place_held, row_held, block_held, HeldFits, PutsHeld};
 
+use chain_committees::cache;
 use chain_committees::changes::links;
 use chain_committees::walk::Walk;
+use committee::leader;
 use store::record;
 use terms::{Member, Proposal, Round};
 use words::bodies::lengths::HELD;
@@ -67,18 +72,39 @@ fn put_row(
     to
 }
 
-/// Puts what the block after the first ones, `before` in number, holds, from `at` on; gives the next place of the list.
-pub(crate) fn put(walk: &Walk, before: u32, list: &mut [u32], at: usize) -> usize
-    requires begun { before < walk.now.begun }
+/// With whom the rows of the block after the first ones, `before` in number, start, 16 for none: the leader of its round, by the committee that is cached, or else by a walk that goes on to this block.
+pub(crate) fn start(walk: &mut Walk, cache: &[u64], before: u32) -> Member
+    requires before { before < walk.old.chain.blocks }
+    requires caches { let c = walk.old.chain in
+        Caches c.settings.now (blocks_in c) cache.now }
+    ensures chain { walk.new.chain ≡ walk.old.chain }
+    ensures start { let c = walk.old.chain in
+        result.0 ≡ start_at c.settings.now c.table.now before }
+{
+    let chain = walk.chain;
+    let round = store::block_round(chain.table, before + 1);
+    if cache::is_cached(cache, chain.settings.ceiling, round) {
+        let committee = cache::committee(cache, chain, round);
+        return leader::leader(&committee.weights, round);
+    }
+    walk.begin(before + 1);
+    walk.start(before)
+}
+
+/// Puts what the block after the first ones, `before` in number, holds, from `at` on, where its rows start with member `start`; gives the next place of the list.
+pub(crate) fn put(walk: &Walk, start: Member, before: u32, list: &mut [u32], at: usize) -> usize
+    requires before { before < walk.now.chain.blocks }
+    requires start { let c = walk.now.chain in
+        start.0 ≡ start_at c.settings.now c.table.now before }
     requires room { let c = walk.now.chain in
         HeldFits list.old at (block_held c.settings.now c.table.now before) }
     ensures { let c = walk.now.chain in
         PutsHeld list.old list.new at result c.table.now (before + 1)
         (block_held c.settings.now c.table.now before) }
 {
-    let end = walk.chain.settings.ceiling.0 * 16 + 16;
+    let ceiling = walk.chain.settings.ceiling;
+    let end = ceiling.0 * 16 + 16;
     let block = before + 1;
-    let start = walk.start(before);
     let mut to = at;
     let mut place = walk.head[block as usize];
     while place < end {
@@ -95,7 +121,8 @@ pub(crate) fn count(walk: &Walk, before: u32) -> u32
         result ≡ length (block_held c.settings.now c.table.now before) }
     ensures most { result ≤ 16 * 1024 + 16 }
 {
-    let end = walk.chain.settings.ceiling.0 * 16 + 16;
+    let ceiling = walk.chain.settings.ceiling;
+    let end = ceiling.0 * 16 + 16;
     let mut count = 0;
     let mut place = walk.head[before as usize + 1];
     while place < end {

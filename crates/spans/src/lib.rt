@@ -11,6 +11,7 @@ ghost use Rattle.std.specs.Prelude.{◌≡◌, [], ◌∷◌, ◌+◌, ◌*◌, 
 ghost use Rattle.std.proofs.lemmas.List.Edits.{sets};
 ghost use Rattle.base.specs.Checks.{refusal};
 ghost use Rattle.base.specs.Puts.{Puts};
+ghost use Rattle.chain_committees.specs.Caches.{Caches};
 ghost use Rattle.chain_committees.specs.Told.{blocks_in};
 ghost use Rattle.refusals.specs.Refusals.{refusal_in};
 ghost use Rattle.state.specs.Answers.{if_accepted};
@@ -40,39 +41,48 @@ fn count_span(walk: &Walk, known: u32, number: u32) -> u32
 }
 
 // Puts what these blocks hold, oldest first, from the front of the list.
-fn put_span(walk: &Walk, known: u32, number: u32, list: &mut [u32]) -> usize
-    requires begun { known + number ≤ walk.now.begun }
-    requires within { known + number ≤ walk.now.chain.blocks }
-    requires room { let c = walk.now.chain in
+fn put_span(walk: &mut Walk, cache: &[u64], known: u32, number: u32, list: &mut [u32]) -> usize
+    requires within { known + number ≤ walk.old.chain.blocks }
+    requires caches { let c = walk.old.chain in
+        Caches c.settings.now (blocks_in c) cache.now }
+    requires room { let c = walk.old.chain in
         held_length * count_after c.settings.now (blocks_in c) known number ≤ length list.old }
-    ensures { let c = walk.now.chain in
+    ensures { let c = walk.old.chain in
         Puts list.old list.new 0 result
         (words_of (held_after c.settings.now (blocks_in c) c.table.now known number))
         (held_length * count_after c.settings.now (blocks_in c) known number) }
 {
     let mut to = 0;
     for i in 0..number {
-        to = block::put(walk, known + i, list, to);
+        let start = block::start(walk, cache, known + i);
+        to = block::put(walk, start, known + i, list, to);
     }
     to
 }
 
 // Check 25, and the list.
 #[tactic(auto, using(crate::proofs::SpanLaws::held_counted), unfolding(base::specs::Checks::refusal, state::specs::Answers::if_accepted))]
-fn listed(walk: &Walk, known: u32, number: u32, list: &mut [u32]) -> Result<u32, Refusal>
-    requires begun { known + number ≤ walk.now.begun }
-    requires within { known + number ≤ walk.now.chain.blocks }
-    ensures refusal { let c = walk.now.chain in
+fn listed(
+    walk: &mut Walk,
+    cache: &[u64],
+    known: u32,
+    number: u32,
+    list: &mut [u32],
+) -> Result<u32, Refusal>
+    requires within { known + number ≤ walk.old.chain.blocks }
+    requires caches { let c = walk.old.chain in
+        Caches c.settings.now (blocks_in c) cache.now }
+    ensures refusal { let c = walk.old.chain in
         refusal_in result
         ≡ refusal ((
           nat_lt (length list.old / held_length)
               (count_after c.settings.now (blocks_in c) known number),
           25,
         ) ∷ []) }
-    ensures value { let c = walk.now.chain in
+    ensures value { let c = walk.old.chain in
         IfOk result (λ n. n
         ≡ length (held_after c.settings.now (blocks_in c) c.table.now known number)) }
-    ensures list { let c = walk.now.chain in
+    ensures list { let c = walk.old.chain in
         list.new ≡ if_accepted (refusal_in result)
         (sets list.old 0
         (words_of (held_after c.settings.now (blocks_in c) c.table.now known number))) list.old }
@@ -81,7 +91,7 @@ fn listed(walk: &Walk, known: u32, number: u32, list: &mut [u32]) -> Result<u32,
     if list.len() / HELD < count as usize {
         return Err(Refusal::LengthRange);
     }
-    put_span(walk, known, number, list);
+    put_span(walk, cache, known, number, list);
     Ok(count)
 }
 
@@ -98,7 +108,28 @@ fn check(view: &View, known: u32, number: u32) -> Result<(), Refusal>
     Ok(())
 }
 
-/// Lists what the `number` blocks after the first `known` hold, oldest first, each in its order: the words of each certificate are those that the read of a certificate gives, eighteen; the value is their number. Checks 1, 23 and 25, in this order; refused, the list stays.
+/// Lists what the `number` blocks after the first `known` hold, oldest first, each in its order: the words of each certificate are those that the read of a certificate gives, eighteen; the value is their number. Checks 23 and 25, in this order; refused, the list stays.
+/// Where the committees of these blocks' rounds are cached no block is applied.
+#[tactic(auto, unfolding(base::specs::Checks::refusal, state::specs::Answers::if_accepted, crate::specs::Listed::blocks_refusal, crate::specs::Listed::blocks_list))]
+pub fn blocks_in_view(
+    view: &View,
+    known: u32,
+    number: u32,
+    list: &mut [u32],
+) -> Result<u32, Refusal>
+    ensures refusal { let v = view.now in
+        refusal_in result ≡ blocks_refusal v.state.now v.table.now known number (length list.old) }
+    ensures value { let v = view.now in
+        IfOk result (λ c. c ≡ length (blocks_held v.state.now v.table.now known number)) }
+    ensures list { let v = view.now in
+        list.new ≡ blocks_list v.state.now v.table.now known number list.old }
+{
+    check(view, known, number)?;
+    let chain = view.chain();
+    over_blocks!(chain, walk => listed(&mut walk, view.cache, known, number, list))
+}
+
+/// The same of any state and table, with check 1 before the others.
 #[tactic(auto, unfolding(base::specs::Checks::refusal, state::specs::Answers::if_accepted, crate::specs::Listed::blocks_refusal, crate::specs::Listed::blocks_list))]
 pub fn blocks(
     state: &State,
@@ -113,10 +144,5 @@ pub fn blocks(
     ensures list { list.new ≡ blocks_list state.now table.now known number list.old }
 {
     let view = View::known(state::well_formed(state, table), &[], state, table)?;
-    check(&view, known, number)?;
-    let chain = view.chain();
-    over_blocks!(chain, walk => {
-        walk.begin(known + number);
-        listed(&walk, known, number, list)
-    })
+    blocks_in_view(&view, known, number, list)
 }

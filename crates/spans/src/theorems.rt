@@ -46,5 +46,5 @@ pub fn stays()
 #[tactic(auto, using(crate::proofs::ClaimLaws::room_for_all))]
 pub fn room_for_all()
     ensures { (s : State) (t : List ℕ) (m n words : ℕ) → well_formed s t ≡ true → m + n ≤ s.blocks
-        → 16 * s.settings.ceiling.0 + 16 ≤ words / 18 → blocks_refusal s t m n words ≡ 0 }
+        → 16 * s.settings.ceiling + 16 ≤ words / 18 → blocks_refusal s t m n words ≡ 0 }
 {}

@@ -1,7 +1,6 @@
 -- A well-formed state has what the calls use of it, and a state that has it is well formed.
 use Rattle.std.proofs.Common.{◌≡◌, refl, true, false, not, ◌&&◌, List, ℕ, ◌≤◌, arith, length, leb, ltb, leb-true, le-leb, ltb-true, lt-ltb, ltb-false}
-use mathlib.Core.Bool.{false≢true}
-use borrow.Author.Tests.{not-true}
+use Rattle.base.proofs.Words.{false≢true, not-true}
 use Rattle.base.proofs.Bools.{both, neither}
 use Rattle.base.specs.Folds.{all_to}
 use Rattle.terms.specs.declared.Body.{Body}
@@ -35,16 +34,16 @@ unfolding numbers_fit
 numbers-whole o r b n w = rw (lt-ltb o 16 w.own, le-leb 1 r w.round_from, le-leb r n w.round_to, le-leb b n w.blocks_to) refl
 
 pub head-parts : (s : State) → head_fits s ≡ true
-    → (out_of_range s.settings ≡ false) × NumbersFit s.own.0 s.round.0 s.blocks s.settings.ceiling.0 × (weightless s.settings ≡ false)
+    → (out_of_range s.settings ≡ false) × NumbersFit s.own.0 s.round s.blocks s.settings.ceiling × (weightless s.settings ≡ false)
 unfolding head_fits
 head-parts s e =
-    let n = numbers_fit s.own.0 s.round.0 s.blocks s.settings.ceiling.0 in
+    let n = numbers_fit s.own.0 s.round s.blocks s.settings.ceiling in
     let p = both (not (out_of_range s.settings)) (n && not (weightless s.settings)) e in
     let q = both n (not (weightless s.settings)) p.1 in
-    (not-true (out_of_range s.settings) p.0, numbers-parts s.own.0 s.round.0 s.blocks s.settings.ceiling.0 q.0, not-true (weightless s.settings) q.1)
+    (not-true (out_of_range s.settings) p.0, numbers-parts s.own.0 s.round s.blocks s.settings.ceiling q.0, not-true (weightless s.settings) q.1)
 
 -- the ranges by which the rest of a well-formed state is tested
-pub head_ranges : (s : State) → head_fits s ≡ true → (s.settings.allowance ≤ 4) × (s.settings.ceiling.0 ≤ 1024) × (s.blocks ≤ s.settings.ceiling.0)
+pub head_ranges : (s : State) → head_fits s ≡ true → (s.settings.allowance ≤ 4) × (s.settings.ceiling ≤ 1024) × (s.blocks ≤ s.settings.ceiling)
 head_ranges s e =
     let h = head-parts s e in
     let f = settings-fit s.settings h.0 in
@@ -56,40 +55,40 @@ body-fits a r b e h =
     let p = neither (ltb a b.count) (not (all_to (λ k. in_range (slot_of b k)) b.count)) (rw (transactions_tab b, bad_transactions_tab a (slot_of b) b.count) at e) in
     record { few = ltb-false a b.count p.0; fit = e; right = h }
 
-proposal-parts : (s : State) → proposal_fits s ≡ true → is_proposing s ≡ true → BodyFits s.settings.allowance s.round.0 (own_body s)
+proposal-parts : (s : State) → proposal_fits s ≡ true → is_proposing s ≡ true → BodyFits s.settings.allowance s.round (own_body s)
 unfolding proposal_fits body_fits
 proposal-parts s = go s.proposal
   where
-    go : (o : Option Body) → fits_if_there s.settings.allowance s.round.0 o ≡ true → is_some o ≡ true → BodyFits s.settings.allowance s.round.0 (unwrap_or o no_body)
+    go : (o : Option Body) → fits_if_there s.settings.allowance s.round o ≡ true → is_some o ≡ true → BodyFits s.settings.allowance s.round (unwrap_or o no_body)
     go None e h = absurd (false≢true h)
     go (Some b) e h =
         let a = s.settings.allowance in
-        let p = both (not (bad_transactions a (transactions_of b))) (not (bad_previous_set s.round.0 b.previous)) e in
-        body-fits a s.round.0 b (not-true (bad_transactions a (transactions_of b)) p.0) (not-true (bad_previous_set s.round.0 b.previous) p.1)
+        let p = both (not (bad_transactions a (transactions_of b))) (not (bad_previous_set s.round b.previous)) e in
+        body-fits a s.round b (not-true (bad_transactions a (transactions_of b)) p.0) (not-true (bad_previous_set s.round b.previous) p.1)
 
-proposal-whole : (s : State) → (is_proposing s ≡ true → BodyFits s.settings.allowance s.round.0 (own_body s)) → proposal_fits s ≡ true
+proposal-whole : (s : State) → (is_proposing s ≡ true → BodyFits s.settings.allowance s.round (own_body s)) → proposal_fits s ≡ true
 unfolding proposal_fits body_fits
 proposal-whole s = go s.proposal
   where
-    go : (o : Option Body) → (is_some o ≡ true → BodyFits s.settings.allowance s.round.0 (unwrap_or o no_body)) → fits_if_there s.settings.allowance s.round.0 o ≡ true
+    go : (o : Option Body) → (is_some o ≡ true → BodyFits s.settings.allowance s.round (unwrap_or o no_body)) → fits_if_there s.settings.allowance s.round o ≡ true
     go None k = refl
     go (Some b) k = let w = k refl in rw (w.fit, w.right) refl
 
 module _ (s : State) (t : List ℕ) where
   -- the conditions alone
-  pub formed-by : out_of_range s.settings ≡ false → weightless s.settings ≡ false → NumbersFit s.own.0 s.round.0 s.blocks s.settings.ceiling.0
-      → (is_proposing s ≡ true → BodyFits s.settings.allowance s.round.0 (own_body s)) → Row t s.settings.ceiling.0
-      → rows_fit t s.settings.allowance s.blocks s.settings.ceiling.0 ≡ true → blocks_fit s.settings.ceiling.0 t s.blocks ≡ true → queues_fit t ≡ true → Formed s t
+  pub formed-by : out_of_range s.settings ≡ false → weightless s.settings ≡ false → NumbersFit s.own.0 s.round s.blocks s.settings.ceiling
+      → (is_proposing s ≡ true → BodyFits s.settings.allowance s.round (own_body s)) → Row t s.settings.ceiling
+      → rows_fit t s.settings.allowance s.blocks s.settings.ceiling ≡ true → blocks_fit s.settings.ceiling t s.blocks ≡ true → queues_fit t ≡ true → Formed s t
   formed-by e w n p l r b q =
       let f = settings-fit s.settings e in
-      let i = few-blocks s.settings.ceiling.0 t s.blocks b s.blocks (omega arith) in
-      let j = last-below s.settings.ceiling.0 t s.blocks b (omega arith) s.blocks (omega arith) in
+      let i = few-blocks s.settings.ceiling t s.blocks b s.blocks (omega arith) in
+      let j = last-below s.settings.ceiling t s.blocks b (omega arith) s.blocks (omega arith) in
       record { is_in_range = e; settings = f; weighty = w; numbers = n; proposal = p; long = l; rows = r; rounds = b; queues = q; room = omega arith; last_to = j }
 
   pub formed : well_formed s t ≡ true → Formed s t
   unfolding well_formed
   formed e =
-      let n = s.settings.ceiling.0 in
+      let n = s.settings.ceiling in
       let p = both (leb (used_length n) (length t)) _ e in
       let q = both (head_fits s) _ p.1 in
       let u = both (proposal_fits s) _ q.1 in
@@ -103,7 +102,7 @@ module _ (s : State) (t : List ℕ) where
   pub formed-ports : well_formed s t ≡ true → ports_fit s.settings t s.blocks ≡ true
   unfolding well_formed
   formed-ports e =
-      let n = s.settings.ceiling.0 in
+      let n = s.settings.ceiling in
       let p = both (leb (used_length n) (length t)) _ e in
       let q = both (head_fits s) _ p.1 in
       let u = both (proposal_fits s) _ q.1 in
@@ -114,11 +113,11 @@ module _ (s : State) (t : List ℕ) where
   pub whole : Formed s t → ports_fit s.settings t s.blocks ≡ true → well_formed s t ≡ true
   unfolding well_formed head_fits
   whole f ports =
-      let n = s.settings.ceiling.0 in
+      let n = s.settings.ceiling in
       rw (
         le-leb (used_length n) (length t) f.long,
         f.is_in_range,
-        numbers-whole s.own.0 s.round.0 s.blocks n f.numbers,
+        numbers-whole s.own.0 s.round s.blocks n f.numbers,
         f.weighty,
         proposal-whole s f.proposal,
         f.rows,

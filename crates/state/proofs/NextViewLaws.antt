@@ -22,46 +22,46 @@ use Rattle.state.proofs.WriteLaws.{Storable, within, dag-put, endorsed-of-put, c
 
 module _ (s : State) (t : List ℕ) where
   -- the proposal is kept
-  pub view-propose : (b : Body) → view (proposed s b) t ≡ after_propose (view s t) (content_with s.own.0 s.round.0 b)
-  view-propose b = λ i. record { round = s.round.0; proposal = proposal-some (proposed s b) refl i; dag = (view s t).dag; endorsed = (view s t).endorsed; chain = (view s t).chain }
+  pub view-propose : (b : Body) → view (proposed s b) t ≡ after_propose (view s t) (content_with s.own.0 s.round b)
+  view-propose b = λ i. record { round = s.round; proposal = proposal-some (proposed s b) refl i; dag = (view s t).dag; endorsed = (view s t).endorsed; chain = (view s t).chain }
 
   -- next round, proposal dropped
   pub view-advance : view (advanced s) t ≡ after_advance (view s t)
   view-advance =
-      λ i. record { round = add-one s.round.0 i; proposal = proposal-none (advanced s) refl i; dag = (view s t).dag; endorsed = (view s t).endorsed; chain = (view s t).chain }
+      λ i. record { round = add-one s.round i; proposal = proposal-none (advanced s) refl i; dag = (view s t).dag; endorsed = (view s t).endorsed; chain = (view s t).chain }
 
-  module _ (p : Content) (long : Row t s.settings.ceiling.0) (k : Storable s.settings.ceiling.0 p) where
+  module _ (p : Content) (long : Row t s.settings.ceiling) (k : Storable s.settings.ceiling p) where
     -- the place is marked endorsed
     pub view-endorse : view s (set_endorsed t p.author p.round) ≡ after_endorse (view s t) p
     view-endorse =
-        let n = s.settings.ceiling.0 in
+        let n = s.settings.ceiling in
         let o = set-endorsed t p.author p.round in
-        λ i. record { round = s.round.0; proposal = own_proposal s; dag = dag-endorse n o i; endorsed = endorsed-of-set s.settings n t p long k i; chain = chain-endorse n o s.blocks i }
+        λ i. record { round = s.round; proposal = own_proposal s; dag = dag-endorse n o i; endorsed = endorsed-of-set s.settings n t p long k i; chain = chain-endorse n o s.blocks i }
 
     module _ (d : ℕ) (free : held_at t p.author p.round ≡ false) where
       -- the certificate is held
       pub view-certify : view s (put_certificate t p d) ≡ after_certify (view s t) p
       view-certify =
           let S = s.settings in
-          let n = S.ceiling.0 in
-          λ i. record { round = s.round.0; proposal = own_proposal s; dag = dag-put n t p d long k free S i; endorsed = endorsed-of-put n t p d long k i; chain = chain-put n t p d long k free s.blocks i }
+          let n = S.ceiling in
+          λ i. record { round = s.round; proposal = own_proposal s; dag = dag-put n t p d long k free S i; endorsed = endorsed-of-put n t p d long k i; chain = chain-put n t p d long k free s.blocks i }
 
       -- and its endorsed mark cleared
       pub view-accept : view s (clear_endorsed (put_certificate t p d) p.author p.round) ≡ after_accept (view s t) p
       view-accept =
           let S = s.settings in
-          let n = S.ceiling.0 in
+          let n = S.ceiling in
           let u = put_certificate t p d in
           let o = clear-endorsed u p.author p.round in
           let long' : Row u n = rw (length-put t p d (within t long k)) long in
           let g = dag-endorse n o ∙ dag-put n t p d long k free S in
           let e = endorsed-of-clear S n u p long' k ∙ ap (mark (rules S) false p) (endorsed-of-put n t p d long k) in
           let c = chain-endorse n o s.blocks ∙ chain-put n t p d long k free s.blocks in
-          λ i. record { round = s.round.0; proposal = own_proposal s; dag = g i; endorsed = e i; chain = c i }
+          λ i. record { round = s.round; proposal = own_proposal s; dag = g i; endorsed = e i; chain = c i }
 
 -- a fresh state has round 1 and nothing else
 pub view_open : (own : Member) (S : Settings) (R : Rights) (t : List ℕ)
-    → ◌≡◌ {A = tests.MemberView S} (view (fresh own S R) (clear_used t S.ceiling.0)) (record { round = 1; proposal = None; dag = λ a r. None; endorsed = λ a r. false; chain = [] })
+    → ◌≡◌ {A = tests.MemberView S} (view (fresh own S R) (clear_used t S.ceiling)) (record { round = 1; proposal = None; dag = λ a r. None; endorsed = λ a r. false; chain = [] })
 view_open own S R t =
-    let n = S.ceiling.0 in
+    let n = S.ceiling in
     λ i. record { round = 1; proposal = proposal-none (fresh own S R) refl i; dag = dag-cleared n t i; endorsed = endorsed-of-cleared n t i; chain = chain-none n (clear_used t n) i }

@@ -11,17 +11,17 @@ use Rattle.state.specs.SharedChecks.{FormFits}
 use Rattle.state.specs.States.{is_proposing, own_body}
 
 module _ (s : State) (t : List ℕ) where
-  pub fits-within : (p : Proposal) → Formed s t → FormFits s p → Within t p.author.0 p.round.0
+  pub fits-within : (p : Proposal) → Formed s t → FormFits s p → Within t p.author.0 p.round
   fits-within p f q = let h = f.long in let l = q.to in record { member = q.author; row = omega arith }
 
-  pub own-within : Formed s t → Within t s.own.0 s.round.0
+  pub own-within : Formed s t → Within t s.own.0 s.round
   own-within f = let h = f.long in let l = f.numbers.round_to in record { member = f.numbers.own; row = omega arith }
 
 -- a proposal that passed the checks of its form has a place
-pub placed : (s : State) (t : List ℕ) (p : Proposal) → Formed s t → FormFits s p → p.body.previous < 65536 → Storable s.settings.ceiling.0 (content_of p)
-placed s t p f k small = storable s.settings.ceiling.0 s.settings.allowance p.author.0 p.round.0 p.body k.author k.from k.to f.settings.allowance_to k.body small
+pub placed : (s : State) (t : List ℕ) (p : Proposal) → Formed s t → FormFits s p → p.body.previous < 65536 → Storable s.settings.ceiling (content_of p)
+placed s t p f k small = storable s.settings.ceiling s.settings.allowance p.author.0 p.round p.body k.author k.from k.to f.settings.allowance_to k.body small
 
 -- and so has one's own
-pub own-placed : (s : State) (t : List ℕ) → Formed s t → is_proposing s ≡ true → (own_body s).previous < 65536 → Storable s.settings.ceiling.0 (content_with s.own.0 s.round.0 (own_body s))
+pub own-placed : (s : State) (t : List ℕ) → Formed s t → is_proposing s ≡ true → (own_body s).previous < 65536 → Storable s.settings.ceiling (content_with s.own.0 s.round (own_body s))
 own-placed s t f e small =
-    storable s.settings.ceiling.0 s.settings.allowance s.own.0 s.round.0 (own_body s) f.numbers.own f.numbers.round_from f.numbers.round_to f.settings.allowance_to (f.proposal e) small
+    storable s.settings.ceiling s.settings.allowance s.own.0 s.round (own_body s) f.numbers.own f.numbers.round_from f.numbers.round_to f.settings.allowance_to (f.proposal e) small

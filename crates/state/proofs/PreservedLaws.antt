@@ -1,6 +1,6 @@
 -- A well-formed state stays well formed: what each accepted call does to the state and the table.
 use Rattle.std.proofs.Common.{◌≡◌, ◌∙◌, true, false, List, ℕ, ◌+◌, ◌<◌, ◌≤◌, arith, length}
-use mathlib.Core.Bool.{false≢true}
+use Rattle.base.proofs.Words.{false≢true}
 use Rattle.base.specs.Sets.{contains}
 use Rattle.terms.specs.declared.Body.{Body}
 use Rattle.terms.specs.declared.Member.{Member}
@@ -41,71 +41,71 @@ storable n allowance a r b h from to l f small =
 module _ (s : State) (t : List ℕ) (f : Formed s t) where
   -- ---- propose and advance: another round or another proposal
 
-  moved-kept : (r : Round) (o : Option Body) → 1 ≤ r.0 → r.0 ≤ s.settings.ceiling.0 → (is_some o ≡ true → BodyFits s.settings.allowance r.0 (unwrap_or o no_body))
+  moved-kept : (r : Round) (o : Option Body) → 1 ≤ r → r ≤ s.settings.ceiling → (is_some o ≡ true → BodyFits s.settings.allowance r (unwrap_or o no_body))
       → Formed (with_round s r o) t
   moved-kept r o from to p =
       formed-by (with_round s r o) t f.is_in_range f.weighty
       (record { own = f.numbers.own; round_from = from; round_to = to; blocks_to = f.numbers.blocks_to }) p f.long f.rows f.rounds f.queues
 
   -- a proposal that fits is kept
-  pub propose-kept : (b : Body) → BodyFits s.settings.allowance s.round.0 b → Formed (proposed s b) t
+  pub propose-kept : (b : Body) → BodyFits s.settings.allowance s.round b → Formed (proposed s b) t
   propose-kept b p = moved-kept s.round (Some b) f.numbers.round_from f.numbers.round_to (λ _. p)
 
   -- below the ceiling the next round, with no proposal
-  pub advance-kept : s.round.0 < s.settings.ceiling.0 → Formed (advanced s) t
-  advance-kept h = moved-kept (record { 0 = s.round.0 + 1 }) None (omega arith) (omega arith) (λ e. absurd (false≢true e))
+  pub advance-kept : s.round < s.settings.ceiling → Formed (advanced s) t
+  advance-kept h = moved-kept (s.round + 1) None (omega arith) (omega arith) (λ e. absurd (false≢true e))
 
   -- ---- endorse, certify, accept: another table
 
-  written : (u : List ℕ) → length u ≡ length t → rows_fit u s.settings.allowance s.blocks s.settings.ceiling.0 ≡ true → ((k : ℕ) → block_round u k ≡ block_round t k) → SameFirst t u → Formed s u
+  written : (u : List ℕ) → length u ≡ length t → rows_fit u s.settings.allowance s.blocks s.settings.ceiling ≡ true → ((k : ℕ) → block_round u k ≡ block_round t k) → SameFirst t u → Formed s u
   written u l r b q =
       formed-by s u f.is_in_range f.weighty f.numbers f.proposal (omega arith) r
-      (blocks-same s.settings.ceiling.0 t u s.blocks (λ k _. b k) f.rounds) (fits-same t u q ∙ f.queues)
+      (blocks-same s.settings.ceiling t u s.blocks (λ k _. b k) f.rounds) (fits-same t u q ∙ f.queues)
 
-  marked : {q : ℕ} {u : List ℕ} → OnlyEndorsed q t u → rows_fit u s.settings.allowance s.blocks s.settings.ceiling.0 ≡ true → SameFirst t u → Formed s u
+  marked : {q : ℕ} {u : List ℕ} → OnlyEndorsed q t u → rows_fit u s.settings.allowance s.blocks s.settings.ceiling ≡ true → SameFirst t u → Formed s u
   marked {u = u} o r = written u o.size r (block-round-endorse o)
 
-  module _ (a q : ℕ) (h : a < 16) (z : 0 < q) (l : q ≤ s.settings.ceiling.0) where
+  module _ (a q : ℕ) (h : a < 16) (z : 0 < q) (l : q ≤ s.settings.ceiling) where
     at : Within t a q
     at = record { member = h; row = omega arith }
 
     -- a place marked endorsed
     pub endorse-kept : Formed s (set_endorsed t a q)
-    endorse-kept = marked (set-endorsed t a q) (rows-set-endorsed t a q at s.settings.allowance s.blocks s.settings.ceiling.0 f.rows) (set-endorsed-first t a q z)
+    endorse-kept = marked (set-endorsed t a q) (rows-set-endorsed t a q at s.settings.allowance s.blocks s.settings.ceiling f.rows) (set-endorsed-first t a q z)
 
     -- its certificate held no more
     pub absent-kept : Formed s (clear_held t a q)
     absent-kept =
         let o = clear-held t a q at.row in
-        written (clear_held t a q) o.size (rows-clear-held t a q at.row s.settings.allowance s.blocks s.settings.ceiling.0 f.rows) (block-round-held o) (clear-held-first t a q z)
+        written (clear_held t a q) o.size (rows-clear-held t a q at.row s.settings.allowance s.blocks s.settings.ceiling f.rows) (block-round-held o) (clear-held-first t a q z)
 
     -- its mark cleared
     pub clear_kept : Formed s (clear_endorsed t a q)
-    clear_kept = marked (clear-endorsed t a q) (rows-clear-endorsed t a q at s.settings.allowance s.blocks s.settings.ceiling.0 f.rows) (clear-endorsed-first t a q z)
+    clear_kept = marked (clear-endorsed t a q) (rows-clear-endorsed t a q at s.settings.allowance s.blocks s.settings.ceiling f.rows) (clear-endorsed-first t a q z)
 
   -- a certificate held that passes checks 6 and 7, its author not among its endorsers
-  pub put-kept : (p : Content) (d : ℕ) → d < 65536 → contains d p.author ≡ false → Storable s.settings.ceiling.0 p → bad_transactions s.settings.allowance p.transactions ≡ false → bad_previous_set p.round p.previous ≡ false
+  pub put-kept : (p : Content) (d : ℕ) → d < 65536 → contains d p.author ≡ false → Storable s.settings.ceiling p → bad_transactions s.settings.allowance p.transactions ≡ false → bad_previous_set p.round p.previous ≡ false
       → Formed s (put_certificate t p d)
   put-kept p d low apart k fit right =
       let i = within t f.long k in
       written (put_certificate t p d) (length-put t p d i)
-      (rows-put t p d i s.settings.allowance s.blocks f.settings.allowance_to fit right k.small low apart s.settings.ceiling.0 f.rows)
+      (rows-put t p d i s.settings.allowance s.blocks f.settings.allowance_to fit right k.small low apart s.settings.ceiling f.rows)
       (block-round-put t p d i) (put_first t p d i k.from)
 
   -- ---- enqueue and draw: another row 0, with queues that fit
 
   pub first-kept : {u : List ℕ} → OnlyFirst t u → queues_fit u ≡ true → Formed s u
   first-kept {u} o q =
-      let n = s.settings.ceiling.0 in
+      let n = s.settings.ceiling in
       let l = o.size in
       formed-by s u f.is_in_range f.weighty f.numbers f.proposal (omega arith) (rows-only o s.settings.allowance s.blocks n ∙ f.rows) (blocks-only o n s.blocks ∙ f.rounds) q
 
 -- ---- open: a fresh state and a cleared table
 
-pub open_formed : (own : Member) (S : Settings) (R : Rights) (t : List ℕ) → own.0 < 16 → out_of_range S ≡ false → weightless S ≡ false → Row t S.ceiling.0
-    → Formed (fresh own S R) (clear_used t S.ceiling.0)
+pub open_formed : (own : Member) (S : Settings) (R : Rights) (t : List ℕ) → own.0 < 16 → out_of_range S ≡ false → weightless S ≡ false → Row t S.ceiling
+    → Formed (fresh own S R) (clear_used t S.ceiling)
 open_formed own S R t h e w l =
-    let n = S.ceiling.0 in
+    let n = S.ceiling in
     let f = settings-fit S e in
     let i = length-cleared t n l in
     formed-by (fresh own S R) (clear_used t n) e w (record { own = h; round_from = omega arith; round_to = omega arith; blocks_to = omega arith }) (λ x. absurd (false≢true x))

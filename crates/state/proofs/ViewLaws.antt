@@ -1,7 +1,6 @@
 -- What the view holds, by what the table says.
 use Rattle.std.proofs.Common.{◌≡◌, refl, sym, ap, ◌∙◌, Bool, true, false, not, cond, ◌&&◌, true≢false, List, ℕ, ◌-◌, ◌<◌, ◌≤◌, arith, Option, Some, None, is_some, unwrap_or, option_map}
-use mathlib.Core.Path.{fun_ext}
-use mathlib.Core.Bool.{and-true, not-not, false≢true}
+use Rattle.base.proofs.Words.{fun_ext, and-true, not-not, false≢true}
 use Rattle.base.specs.Folds.{any_to}
 use Rattle.base.proofs.TestLaws.{any_same}
 use Rattle.base.specs.Sets.{contains, is_subset}
@@ -98,22 +97,22 @@ module _ (n : ℕ) (t u : List ℕ) where
 -- states that differ elsewhere have the same one
 pub proposal-same : (s u : State) → u.own ≡ s.own → u.round ≡ s.round → u.proposal ≡ s.proposal → own_proposal u ≡ own_proposal s
 unfolding own_proposal
-proposal-same s u o r p = λ i. option_map (content_with (o i).0 (r i).0) (p i)
+proposal-same s u o r p = λ i. option_map (content_with (o i).0 (r i)) (p i)
 
 module _ (s : State) where
   pub proposal-none : is_proposing s ≡ false → own_proposal s ≡ None
   unfolding own_proposal
   proposal-none = go s.proposal
     where
-      go : (o : Option Body) → is_some o ≡ false → option_map (content_with s.own.0 s.round.0) o ≡ None
+      go : (o : Option Body) → is_some o ≡ false → option_map (content_with s.own.0 s.round) o ≡ None
       go None e = refl
       go (Some b) e = absurd (true≢false e)
 
-  pub proposal-some : is_proposing s ≡ true → own_proposal s ≡ Some (content_with s.own.0 s.round.0 (own_body s))
+  pub proposal-some : is_proposing s ≡ true → own_proposal s ≡ Some (content_with s.own.0 s.round (own_body s))
   unfolding own_proposal
   proposal-some = go s.proposal
     where
-      go : (o : Option Body) → is_some o ≡ true → option_map (content_with s.own.0 s.round.0) o ≡ Some (content_with s.own.0 s.round.0 (unwrap_or o no_body))
+      go : (o : Option Body) → is_some o ≡ true → option_map (content_with s.own.0 s.round) o ≡ Some (content_with s.own.0 s.round (unwrap_or o no_body))
       go None e = absurd (false≢true e)
       go (Some b) e = refl
 
@@ -127,11 +126,11 @@ module _ (s : State) where
 -- ---- named previous certificates
 
 -- a named previous certificate is not held: one of a 16-bit set is not among those held one round earlier
-pub missing-held : (s : State) (t : List ℕ) (p : Content) → p.previous < 65536 → 1 < p.round → p.round ≤ s.settings.ceiling.0
+pub missing-held : (s : State) (t : List ℕ) (p : Content) → p.previous < 65536 → 1 < p.round → p.round ≤ s.settings.ceiling
     → missing s.settings (view s t) p ≡ not (is_subset p.previous (held_set t (p.round - 1)))
 unfolding missing
 missing-held s t p small from to =
-    let n = s.settings.ceiling.0 in
+    let n = s.settings.ceiling in
     let q = p.round - 1 in
     let f : ℕ → Bool = λ i. contains p.previous i && not (is_held (dag_of n t i q)) in
     let g : ℕ → Bool = λ i. contains p.previous i && not (contains (held_set t q) i) in

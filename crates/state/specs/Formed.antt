@@ -29,12 +29,12 @@ pub record Formed (s : State) (t : List ℕ) : Type 0 where
   pub is_in_range : out_of_range s.settings ≡ false
   pub settings : SettingsFit s.settings
   pub weighty : weightless s.settings ≡ false
-  pub numbers : NumbersFit s.own.0 s.round.0 s.blocks s.settings.ceiling.0
-  pub proposal : is_proposing s ≡ true → BodyFits s.settings.allowance s.round.0 (own_body s)
-  pub long : Row t s.settings.ceiling.0
-  pub rows : rows_fit t s.settings.allowance s.blocks s.settings.ceiling.0 ≡ true
-  pub rounds : blocks_fit s.settings.ceiling.0 t s.blocks ≡ true
+  pub numbers : NumbersFit s.own.0 s.round s.blocks s.settings.ceiling
+  pub proposal : is_proposing s ≡ true → BodyFits s.settings.allowance s.round (own_body s)
+  pub long : Row t s.settings.ceiling
+  pub rows : rows_fit t s.settings.allowance s.blocks s.settings.ceiling ≡ true
+  pub rounds : blocks_fit s.settings.ceiling t s.blocks ≡ true
   pub queues : queues_fit t ≡ true
   -- there is room for one more block below the ceiling
-  pub room : 2 * s.blocks < s.settings.ceiling.0
-  pub last_to : last (chain_of s.settings.ceiling.0 t s.blocks) < s.settings.ceiling.0
+  pub room : 2 * s.blocks < s.settings.ceiling
+  pub last_to : last (chain_of s.settings.ceiling t s.blocks) < s.settings.ceiling

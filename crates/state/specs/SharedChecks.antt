@@ -18,6 +18,6 @@ module _ (S : Settings) where
 -- author, round and body of a proposal that passes checks 4, 5, 6, 7
 pub record FormFits (s : State) (p : Proposal) : Type 0 where
   pub author : p.author.0 < 16
-  pub from : 0 < p.round.0
-  pub to : p.round.0 ≤ s.settings.ceiling.0
-  pub body : BodyFits s.settings.allowance p.round.0 p.body
+  pub from : 0 < p.round
+  pub to : p.round ≤ s.settings.ceiling
+  pub body : BodyFits s.settings.allowance p.round p.body

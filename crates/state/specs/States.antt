@@ -18,14 +18,14 @@ proposed s b = with_round s s.round (Some b)
 
 -- advance: next round, proposal dropped
 abbrev pub advanced : State → State
-advanced s = with_round s (record { 0 = s.round.0 + 1 }) None
+advanced s = with_round s (s.round + 1) None
 
 -- open: round 1 and nothing else, beside the rights
 abbrev pub fresh : Member → Settings → Rights → State
 fresh own S R = record {
   own = own;
   settings = S;
-  round = record { 0 = 1 };
+  round = 1;
   proposal = None;
   blocks = 0;
   rights = R;

@@ -17,14 +17,14 @@ endorsed_of n t a r = is_round n r && endorsed_at t a r
 
 -- the proposal for the present round, if any: author and round are one's own
 unfoldable pub own_proposal : State → Option Content
-own_proposal s = option_map (content_with s.own.0 s.round.0) s.proposal
+own_proposal s = option_map (content_with s.own.0 s.round) s.proposal
 
 abbrev pub view : (s : State) → List ℕ → MemberView s.settings
 view s t =
     record {
-      round = s.round.0;
+      round = s.round;
       proposal = own_proposal s;
-      dag = dag_of s.settings.ceiling.0 t;
-      endorsed = endorsed_of s.settings.ceiling.0 t;
-      chain = chain_of s.settings.ceiling.0 t s.blocks;
+      dag = dag_of s.settings.ceiling t;
+      endorsed = endorsed_of s.settings.ceiling t;
+      chain = chain_of s.settings.ceiling t s.blocks;
     }

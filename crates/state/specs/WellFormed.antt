@@ -18,7 +18,7 @@ numbers_fit own round blocks ceiling =
 -- settings and numbers are in range, some starting weight is positive
 unfoldable pub head_fits : State → Bool
 head_fits s = not (out_of_range s.settings)
-    && (numbers_fit s.own.0 s.round.0 s.blocks s.settings.ceiling.0 && not (weightless s.settings))
+    && (numbers_fit s.own.0 s.round s.blocks s.settings.ceiling && not (weightless s.settings))
 
 -- transactions are in range and within the allowance, a previous set is empty exactly in round 1
 unfoldable pub body_fits : ℕ → ℕ → Body → Bool
@@ -31,15 +31,15 @@ fits_if_there allowance r None = true
 fits_if_there allowance r (Some b) = body_fits allowance r b
 
 unfoldable pub proposal_fits : State → Bool
-proposal_fits s = fits_if_there s.settings.allowance s.round.0 s.proposal
+proposal_fits s = fits_if_there s.settings.allowance s.round s.proposal
 
 -- the lent table has at least the length for the ceiling, the conditions above hold, block rounds are even, rising and below the ceiling, guests' queues are well formed, and no guest's serial port has read past the listing's end
 unfoldable pub well_formed : State → List ℕ → Bool
 well_formed s t =
-    nat_le (used_length s.settings.ceiling.0) (length t)
+    nat_le (used_length s.settings.ceiling) (length t)
     && (head_fits s
     && (proposal_fits s
-    && (rows_fit t s.settings.allowance s.blocks s.settings.ceiling.0
-    && (blocks_fit s.settings.ceiling.0 t s.blocks
+    && (rows_fit t s.settings.allowance s.blocks s.settings.ceiling
+    && (blocks_fit s.settings.ceiling t s.blocks
     && (queues_fit t
     && ports_fit s.settings t s.blocks)))))

@@ -40,7 +40,7 @@ pub struct State {
 // Are own number, present round and number of blocks in range?
 #[tactic(auto, unfolding(crate::specs::WellFormed::numbers_fit))]
 fn numbers_fit(own: Member, round: Round, blocks: u32, ceiling: Round) -> bool
-    ensures { result ≡ numbers_fit own.0 round.0 blocks ceiling.0 }
+    ensures { result ≡ numbers_fit own.0 round blocks ceiling }
 {
     own.0 < 16 && 1 <= round.0 && round.0 <= ceiling.0 && blocks <= ceiling.0
 }
@@ -49,7 +49,7 @@ fn numbers_fit(own: Member, round: Round, blocks: u32, ceiling: Round) -> bool
 #[tactic(auto, unfolding(crate::specs::WellFormed::body_fits))]
 fn body_fits(allowance: u32, round: Round, body: Body) -> bool
     requires { allowance ≤ 4 }
-    ensures { result ≡ body_fits allowance round.0 body }
+    ensures { result ≡ body_fits allowance round body }
 {
     !terms::has_bad_transactions(allowance, body)
         && !terms::is_bad_previous_set(round, body.previous as u32)
@@ -79,13 +79,13 @@ fn head_fits(state: &State) -> bool
 
 // Do rows, block rounds, guests' queues and ports fit, in a table that is long enough?
 fn table_fits(state: &State, table: &[u32]) -> bool
-    requires long { Row table.now state.now.settings.ceiling.0 }
-    requires ceiling { state.now.settings.ceiling.0 ≤ 1024 }
-    requires blocks { state.now.blocks ≤ state.now.settings.ceiling.0 }
+    requires long { Row table.now state.now.settings.ceiling }
+    requires ceiling { state.now.settings.ceiling ≤ 1024 }
+    requires blocks { state.now.blocks ≤ state.now.settings.ceiling }
     ensures { let s = state.now in let t = table.now in
         result
-        ≡ (rows_fit t s.settings.allowance s.blocks s.settings.ceiling.0
-        && (blocks_fit s.settings.ceiling.0 t s.blocks
+        ≡ (rows_fit t s.settings.allowance s.blocks s.settings.ceiling
+        && (blocks_fit s.settings.ceiling t s.blocks
         && (queues_fit t && ports_fit s.settings t s.blocks))) }
 {
     let ceiling = state.settings.ceiling;

@@ -1,6 +1,6 @@
 -- What the table says after its used part is cleared.
 use Rattle.std.proofs.Common.{◌≡◌, ◌∙◌, false, List, ℕ, ◌+◌, ◌*◌, ◌<◌, ◌≤◌, arith, length, get_or, take, drop, replicate, length-append, length-drop, take_at, drop_at, None}
-use lib.ListN.{length-replicate, get_or-replicate, get_or-append}
+use Rattle.base.proofs.Words.{length-replicate, get_or-replicate, get_or-append}
 use Rattle.base.proofs.UnionLaws.{in_none}
 use Rattle.store.specs.Table.{row_length, used_length, Row, held_set, endorsed_set, held_at, endorsed_at, certificate_at}
 use Rattle.store.proofs.TableLaws.{held_in, endorsed_in, certificate-absent}

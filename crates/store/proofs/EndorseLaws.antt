@@ -1,6 +1,6 @@
 -- What the table says after an endorsed mark is set or cleared.
 use Rattle.std.proofs.Common.{◌≡◌, refl, false, cond, ◌||◌, List, ◌≢◌, ℕ, ◌+◌, ◌*◌, ◌<◌, ◌≤◌, arith, length, get_or, set, drop, length-set, get_or-set_same, get_or-set_other}
-use native.Mathlib.Decide.{ℕ_discrete}
+use Rattle.base.proofs.Words.{ℕ_discrete}
 use Rattle.base.specs.Sets.{insert, remove}
 use Rattle.base.proofs.SetLaws.{insert_lt, remove_le}
 use Rattle.store.specs.Table.{row_length, record_length, record_start, used_length, Row, Within, held_set, endorsed_set, block_round, held_at, endorsed_at, record_word, mark_at, content_at, certificate_at}

@@ -1,7 +1,6 @@
 -- Row 0 of the table, which no rule speaks of: the store's writes leave it, and a write to it alone leaves all that the rules see.
 use Rattle.std.proofs.Common.{◌≡◌, refl, sym, ap, ◌∙◌, List, ℕ, ◌+◌, ◌*◌, ◌<◌, ◌≤◌, arith, length, get_or, set, drop, length-set, get_or-take, get_or-set_other}
-use lib.ListN.{get_or-replicate}
-use lib.Seq.{paste, length-paste}
+use Rattle.base.proofs.Words.{get_or-replicate, paste, length-paste}
 use Rattle.base.specs.Sets.{insert, remove}
 use Rattle.base.proofs.PasteLaws.{paste-below, paste-over}
 use Rattle.terms.specs.Proposals.{Content}

@@ -1,6 +1,6 @@
 -- What the table says after a certificate is held no more, and that it is as it was when the certificate is held again.
 use Rattle.std.proofs.Common.{◌≡◌, refl, ◌∙◌, Bool, true, false, cond, List, ◌≢◌, ℕ, ◌+◌, ◌*◌, ◌<◌, arith, length, get_or, length-set, get_or-set_same, get_or-set_other, ext_get_or, Some, None}
-use native.Mathlib.Decide.{ℕ_discrete}
+use Rattle.base.proofs.Words.{ℕ_discrete}
 use Rattle.base.specs.Sets.{remove}
 use Rattle.base.proofs.SetLaws.{remove_le}
 use Rattle.store.specs.Table.{row_length, record_length, record_start, Row, held_set, endorsed_set, block_round, held_at, record_word, previous_at, mark_at, content_at, certificate_at}

@@ -1,6 +1,6 @@
 -- What the table says after commit marks and block rounds are set: these are the words whose number leaves 2 when divided by 16.
 use Rattle.std.proofs.Common.{◌≡◌, refl, sym, ◌∙◌, Bool, true, false, cond, List, ◌≢◌, ℕ, ◌+◌, ◌*◌, ◌%◌, ◌<◌, ◌≤◌, arith, length, get_or, set, drop, length-set, get_or-set_same, get_or-set_other}
-use native.Mathlib.Decide.{dec_lt}
+use Rattle.base.proofs.Words.{dec_lt}
 use Rattle.store.specs.Table.{row_length, record_length, record_start, used_length, Within, Row, held_set, endorsed_set, block_round, held_at, endorsed_at, record_word, previous_at, mark_at, content_at, certificate_at}
 use Rattle.store.specs.Writes.{set_mark, set_block}
 use Rattle.store.proofs.WriteLaws.{same_place, other_place, previous-same, content-same, certificate-same, same-beyond}

@@ -1,8 +1,6 @@
 -- Which words the store's writes change, and which words a read looks at.
 use Rattle.std.proofs.Common.{◌≡◌, refl, sym, ◌∙◌, Bool, true, false, not, cond, ◌&&◌, ◌||◌, true≢false, List, ⊎_elim, ◌⊎◌, inl, inr, ◌≢◌, ℕ, ◌+◌, ◌*◌, ◌%◌, ◌<◌, ◌≤◌, arith, eqb, length, get_or, drop, length-set, length-drop, get_or-set_same, get_or-set_other, ext_get_or, get_or-drop, eq-eqb, ne_eqb, eqb-true, Some, None}
-use mathlib.Core.Bool.{and-true, and-false}
-use native.Mathlib.Decide.{dec_lt, ℕ_discrete}
-use lib.Seq.{paste, length-paste}
+use Rattle.base.proofs.Words.{and-true, and-false, dec_lt, ℕ_discrete, paste, length-paste}
 use Rattle.base.proofs.Bools.{both, eqb_flip}
 use Rattle.base.specs.Folds.{tab}
 use Rattle.base.proofs.FoldLaws.{tab-same}

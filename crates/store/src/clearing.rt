@@ -10,8 +10,8 @@ use terms::{Member, Round};
 /// Clears the endorsed mark of a place: it may be endorsed again.
 #[tactic(auto, unfolding(crate::specs::Writes::clear_endorsed, crate::specs::Table::endorsed_set))]
 pub fn clear_endorsed(table: &mut [u32], author: Member, round: Round)
-    requires { Within table.old author.0 round.0 }
-    ensures { table.new ≡ clear_endorsed table.old author.0 round.0 }
+    requires { Within table.old author.0 round }
+    ensures { table.new ≡ clear_endorsed table.old author.0 round }
 {
     let word = row_start(round) + ROW_ENDORSED;
     table[word] = base::remove(table[word], author.0);
@@ -20,8 +20,8 @@ pub fn clear_endorsed(table: &mut [u32], author: Member, round: Round)
 /// Clears what a state of this ceiling uses, the rows 0 to `ceiling`. What lies behind stays.
 #[tactic(auto, unfolding(crate::specs::Writes::clear_used))]
 pub fn clear_used(table: &mut [u32], ceiling: Round)
-    requires { Row table.old ceiling.0 }
-    ensures { table.new ≡ clear_used table.old ceiling.0 }
+    requires { Row table.old ceiling }
+    ensures { table.new ≡ clear_used table.old ceiling }
 {
     table[..used_length(ceiling)].fill(0);
 }

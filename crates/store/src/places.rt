@@ -27,23 +27,23 @@ pub const RECORD_ENDORSERS: u32 = 3;
 /// Of a record: its transactions.
 pub const RECORD_TRANSACTIONS: u32 = 4;
 
-/// Where the row of round r starts.
-pub fn row_start(r: Round) -> usize
-    ensures { result ≡ row_start r.0 }
+/// Where the row of `round` starts.
+pub fn row_start(round: Round) -> usize
+    ensures { result ≡ row_start round }
 {
-    r.0 as usize * ROW
+    round.0 as usize * ROW
 }
 
-/// Where the record of author m and round r starts.
-pub fn record_start(m: Member, r: Round) -> usize
-    ensures { result ≡ record_start m.0 r.0 }
+/// Where the record of `author` and `round` starts.
+pub fn record_start(author: Member, round: Round) -> usize
+    ensures { result ≡ record_start author.0 round }
 {
-    row_start(r) + m.0 as usize * RECORD + HEAD
+    row_start(round) + author.0 as usize * RECORD + HEAD
 }
 
-/// How many words a state of ceiling n uses: the rows 0 to n.
-pub fn used_length(n: Round) -> usize
-    ensures { result ≡ used_length n.0 }
+/// How many words a state of this ceiling uses: the rows from 0 up to it.
+pub fn used_length(ceiling: Round) -> usize
+    ensures { result ≡ used_length ceiling }
 {
-    row_start(n) + ROW
+    row_start(ceiling) + ROW
 }

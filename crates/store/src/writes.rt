@@ -68,7 +68,7 @@ fn put_words(table: &mut [u32], at: usize, words: [u32; RECORD])
 /// Puts a certificate of at most four transactions at its place with its endorsers, in no block. It is held from then on.
 #[tactic(auto, unfolding(crate::specs::Writes::put_certificate, crate::specs::Writes::put_record, crate::specs::Table::held_set))]
 pub fn put_certificate(table: &mut [u32], proposal: Proposal, endorsers: u16)
-    requires { Within table.old proposal.author.0 proposal.round.0 × (proposal.body.count ≤ 4) }
+    requires { Within table.old proposal.author.0 proposal.round × (proposal.body.count ≤ 4) }
     ensures { table.new ≡ put_certificate table.old (content_of proposal) endorsers }
 {
     let author = proposal.author.0;
@@ -83,8 +83,8 @@ pub fn put_certificate(table: &mut [u32], proposal: Proposal, endorsers: u16)
 /// Marks a place endorsed.
 #[tactic(auto, unfolding(crate::specs::Writes::set_endorsed, crate::specs::Table::endorsed_set))]
 pub fn set_endorsed(table: &mut [u32], author: Member, round: Round)
-    requires { Within table.old author.0 round.0 }
-    ensures { table.new ≡ set_endorsed table.old author.0 round.0 }
+    requires { Within table.old author.0 round }
+    ensures { table.new ≡ set_endorsed table.old author.0 round }
 {
     let at = row_start(round) + ROW_ENDORSED;
     table[at] = base::insert(table[at], author.0);
@@ -93,8 +93,8 @@ pub fn set_endorsed(table: &mut [u32], author: Member, round: Round)
 /// Writes the authors whose certificates of `round` are held, a bit each; their records stay as they are.
 #[tactic(auto, unfolding(crate::specs::Writes::set_held))]
 pub fn set_held(table: &mut [u32], round: Round, authors: u32)
-    requires { Row table.old round.0 }
-    ensures { table.new ≡ set_held table.old round.0 authors }
+    requires { Row table.old round }
+    ensures { table.new ≡ set_held table.old round authors }
 {
     table[row_start(round)] = authors;
 }
@@ -102,8 +102,8 @@ pub fn set_held(table: &mut [u32], round: Round, authors: u32)
 /// Puts the certificate of a place into `block`, 0 for none.
 #[tactic(auto, unfolding(crate::specs::Writes::set_mark))]
 pub fn set_mark(table: &mut [u32], author: Member, round: Round, block: u32)
-    requires { Within table.old author.0 round.0 }
-    ensures { table.new ≡ set_mark table.old author.0 round.0 block }
+    requires { Within table.old author.0 round }
+    ensures { table.new ≡ set_mark table.old author.0 round block }
 {
     table[record_start(author, round) + RECORD_BLOCK as usize] = block;
 }
@@ -112,7 +112,7 @@ pub fn set_mark(table: &mut [u32], author: Member, round: Round, block: u32)
 #[tactic(auto, unfolding(crate::specs::Writes::set_block))]
 pub fn set_block(table: &mut [u32], block: u32, round: Round)
     requires { Row table.old block }
-    ensures { table.new ≡ set_block table.old block round.0 }
+    ensures { table.new ≡ set_block table.old block round }
 {
     table[row_start(Round(block)) + ROW_BLOCK] = round.0;
 }

@@ -75,7 +75,7 @@ body_back p = let b = p.body in rw (used_back b 0, used_back b 1, used_back b 2,
 pub proposal_back : (u : List ℕ) → proposal_in (proposal_words (proposal_in u)) ≡ proposal_in u
 unfolding proposal_in proposal_words
 proposal_back u =
-    ap (λ (b : Body). record { author = record { 0 = get_or u 0 0 }; round = record { 0 = get_or u 1 0 }; body = b }) (body_back (proposal_in u) ∙ body-tidy u 2)
+    ap (λ (b : Body). record { author = record { 0 = get_or u 0 0 }; round = get_or u 1 0; body = b }) (body_back (proposal_in u) ∙ body-tidy u 2)
 
 -- ---- its words are words
 

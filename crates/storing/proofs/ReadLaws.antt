@@ -1,6 +1,6 @@
 -- Words put as bytes read back, and bytes read as words are put back.
 use Rattle.std.proofs.Common.{◌≡◌, refl, ap, ap₂, sym, ◌∙◌, List, [], ◌∷◌, ◌++◌, append_assoc, append-nil, ℕ, zero, suc, add-zero, zero-add, ◌+◌, ◌*◌, ◌<◌, ◌≤◌, arith, length, get_or, take, drop, length-take-le, slice_index}
-use lib.ListN.{get_or-append}
+use Rattle.base.proofs.Words.{get_or-append}
 use Rattle.std.proofs.Math.Seq.{take-add}
 use Rattle.std.proofs.lemmas.List.{get_or-drop}
 use Rattle.std.proofs.lemmas.List.Concat.{get_or-flat_map}

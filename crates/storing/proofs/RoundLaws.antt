@@ -3,7 +3,7 @@ use Rattle.std.proofs.Common.{◌≡◌, refl, ap, ap₂, sym, ◌∙◌, Bool, 
 use Rattle.std.specs.Str.{bytes_eq}
 use Rattle.std.proofs.lemmas.Slice.Eq.{bytes_eq-Decides}
 use Rattle.std.proofs.lemmas.List.{take_at, drop_at, take_all, get_or-take}
-use lib.ListN.{get_or-append}
+use Rattle.base.proofs.Words.{get_or-append}
 use Rattle.sha2.specs.Sha256.{sha256}
 use Rattle.base.proofs.CheckLaws.{numbered, passes, passes-all}
 use Rattle.base.proofs.Passed.{passed}

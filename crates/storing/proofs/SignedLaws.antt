@@ -33,12 +33,12 @@ settings_put w z low high h l =
 
 pub length-sixteen_words : (p : Proposal) → length (proposal_words p) ≡ 16
 unfolding proposal_words
-length-sixteen_words p = length-append (p.author.0 ∷ p.round.0 ∷ []) (body_words p.body) ∙ ap (λ (k : ℕ). 2 + k) (length-body p.body)
+length-sixteen_words p = length-append (p.author.0 ∷ p.round ∷ []) (body_words p.body) ∙ ap (λ (k : ℕ). 2 + k) (length-body p.body)
 
 pub proposal_put : (p : Proposal) (z : List ℕ) → length z ≡ 16
-    → paste (paste z 0 (p.author.0 ∷ p.round.0 ∷ []) 2) 2 (body_words p.body) 14 ≡ proposal_words p
+    → paste (paste z 0 (p.author.0 ∷ p.round ∷ []) 2) 2 (body_words p.body) 14 ≡ proposal_words p
 unfolding proposal_words
-proposal_put p z l = whole z (p.author.0 ∷ p.round.0 ∷ []) (body_words p.body) 2 14 refl (length-body p.body) l
+proposal_put p z l = whole z (p.author.0 ∷ p.round ∷ []) (body_words p.body) 2 14 refl (length-body p.body) l
 
 -- all of a list of as many bytes
 pub all_put : (x z : List ℕ) → length z ≡ 4 * length x → paste z 0 (bytes_of x) (4 * length x) ≡ bytes_of x

@@ -32,7 +32,7 @@ run_digest w run =
 
 -- the sixteen words of a proposal: those of transactions beyond their number are 0
 unfoldable pub proposal_words : Proposal → List ℕ
-proposal_words p = (p.author.0 ∷ p.round.0 ∷ []) ++ body_words p.body
+proposal_words p = (p.author.0 ∷ p.round ∷ []) ++ body_words p.body
 
 -- the mark, the run and the words
 unfoldable pub message : ℕ → List ℕ → ℕ → List ℕ → List ℕ

@@ -60,10 +60,10 @@ fn check(
     table: usize,
 ) -> Result<Round, StoringRefusal>
     ensures refusal { refusal_in result ≡ load_refusal bytes.now own run state table }
-    ensures value { IfOk result (λ c. c.0 ≡ ceiling_in bytes.now) }
-    ensures bytes { IfOk result (λ c. stored_length c.0 ≡ length bytes.now) }
+    ensures value { IfOk result (λ c. c ≡ ceiling_in bytes.now) }
+    ensures bytes { IfOk result (λ c. stored_length c ≡ length bytes.now) }
     ensures state { OnOk result (state_length ≤ state) }
-    ensures table { IfOk result (λ c. used_length c.0 ≤ table) }
+    ensures table { IfOk result (λ c. used_length c ≤ table) }
 {
     if bytes.len() < stored_length(Round(0)) {
         return Err(StoringRefusal::Torn);

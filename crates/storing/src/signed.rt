@@ -68,11 +68,9 @@ fn proposal_words(proposal: Proposal) -> [u32; 16]
     ensures { result ≡ proposal_words proposal }
 {
     let mut words = [0u32; 16];
-    stretch::put(
-        &mut words,
-        PROPOSAL_AUTHOR,
-        &[proposal.author.0, proposal.round.0],
-    );
+    let author = proposal.author;
+    let round = proposal.round;
+    stretch::put(&mut words, PROPOSAL_AUTHOR, &[author.0, round.0]);
     bodies::put_body(&mut words, PROPOSAL_BODY, proposal.body);
     words
 }

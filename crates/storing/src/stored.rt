@@ -36,14 +36,14 @@ pub const DIGEST: usize = 32;
 
 /// How many words stand before the digest, of a ceiling.
 pub(crate) fn covered_length(ceiling: Round) -> usize
-    ensures { result ≡ covered_length ceiling.0 }
+    ensures { result ≡ covered_length ceiling }
 {
     HEAD + STATE + places::used_length(ceiling)
 }
 
 /// How many bytes a member of this ceiling is stored in.
 pub fn stored_length(ceiling: Round) -> usize
-    ensures { result ≡ stored_length ceiling.0 }
+    ensures { result ≡ stored_length ceiling }
 {
     4 * covered_length(ceiling) + DIGEST
 }
@@ -73,10 +73,10 @@ fn head_words(run: u64) -> [u32; 4]
 #[tactic(auto, using(crate::proofs::StoredLaws::reads_long), unfolding(base::specs::Checks::refusal, crate::specs::Storing::store_refusal, words::specs::States::state_in, words::specs::States::settings_in))]
 fn check(state: &[u32], table: usize, room: usize) -> Result<Round, StoringRefusal>
     ensures refusal { refusal_in result ≡ store_refusal state.now table room }
-    ensures value { IfOk result (λ c. c.0 ≡ ceiling_of state.now) }
+    ensures value { IfOk result (λ c. c ≡ ceiling_of state.now) }
     ensures state { OnOk result (state_length ≤ length state.now) }
-    ensures table { IfOk result (λ c. used_length c.0 ≤ table) }
-    ensures room { IfOk result (λ c. stored_length c.0 ≤ room) }
+    ensures table { IfOk result (λ c. used_length c ≤ table) }
+    ensures room { IfOk result (λ c. stored_length c ≤ room) }
 {
     let Some(s) = words::states::state(state) else {
         return Err(StoringRefusal::Unreadable);
@@ -103,12 +103,12 @@ fn first(words: &[u32], count: usize) -> &[u32]
 // The words before the digest, and nothing else.
 #[tactic(auto, using(crate::proofs::StoredLaws::covered_put), unfolding(crate::specs::Stored::covered_words))]
 fn put_covered(out: &mut [u8], run: u64, state: &[u32], table: &[u32], ceiling: Round)
-    requires room { 4 * covered_length ceiling.0 ≤ length out.old }
-    requires ceiling { ceiling.0 ≡ ceiling_of state.now }
+    requires room { 4 * covered_length ceiling ≤ length out.old }
+    requires ceiling { ceiling ≡ ceiling_of state.now }
     requires state { state_length ≤ length state.now }
-    requires table { used_length ceiling.0 ≤ length table.now }
+    requires table { used_length ceiling ≤ length table.now }
     ensures { out.new ≡ paste out.old 0 (bytes_of (covered_words run state.now table.now))
-        (4 * covered_length ceiling.0) }
+        (4 * covered_length ceiling) }
 {
     bytes::put_words(out, 0, &head_words(run));
     bytes::put_words(out, HEAD, first(state, STATE));

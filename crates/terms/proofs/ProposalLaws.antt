@@ -1,7 +1,6 @@
 -- Laws of transactions and proposals.
 use Rattle.std.proofs.Common.{◌≡◌, refl, sym, ap, ◌∙◌, subst, Bool, true, false, not, cond, ◌&&◌, ◌||◌, true≢false, List, [], ◌∷◌, ◌++◌, ◌≢◌, ℕ, zero, suc, ◌≤◌, ◌<◌, arith, length, eqb, ltb, leb, eq-eqb, ne_eqb, eqb-true, leb-true}
-use mathlib.Core.Bool.{and-true, and_assoc, false≢true}
-use borrow.Author.Tests.{not-false}
+use Rattle.base.proofs.Words.{and-true, and_assoc, false≢true, not-false}
 use Rattle.base.proofs.Bools.{both}
 use Rattle.base.specs.Folds.{all_to, any_to, tab}
 use Rattle.base.proofs.Ranges.{tab_next, all_next}

@@ -20,12 +20,12 @@ unfolding out_of_range
 settings-fit S h =
     let w = any_to (λ i. not_within (weight_in S.weights i) 0 1000000) 16 in
     let d = not_within S.margin 3 5 in
-    let p = neither (not_within S.lookback 1 1000) (not_within S.ceiling.0 3 1024 || (not_within S.allowance 0 4 || (w || d))) h in
-    let q = neither (not_within S.ceiling.0 3 1024) (not_within S.allowance 0 4 || (w || d)) p.1 in
+    let p = neither (not_within S.lookback 1 1000) (not_within S.ceiling 3 1024 || (not_within S.allowance 0 4 || (w || d))) h in
+    let q = neither (not_within S.ceiling 3 1024) (not_within S.allowance 0 4 || (w || d)) p.1 in
     let r = neither (not_within S.allowance 0 4) (w || d) q.1 in
     let s = neither w d r.1 in
     let l = inside S.lookback 1 1000 p.0 in
-    let c = inside S.ceiling.0 3 1024 q.0 in
+    let c = inside S.ceiling 3 1024 q.0 in
     let m = inside S.margin 3 5 s.1 in
     record {
       lookback_from = l.0;
@@ -48,7 +48,7 @@ unfoldable pub written : Settings → Rights → Sheet
 written S R =
     record {
       lookback = Written S.lookback;
-      ceiling = Written S.ceiling.0;
+      ceiling = Written S.ceiling;
       allowance = Written S.allowance;
       weights = tab (λ i. Written (weight_in S.weights i)) 16;
       margin = Written S.margin;

@@ -20,7 +20,7 @@ not_within x a b = nat_lt x a || nat_lt b x
 unfoldable pub out_of_range : Settings → Bool
 out_of_range S =
     not_within S.lookback 1 1000
-    || (not_within S.ceiling.0 3 1024
+    || (not_within S.ceiling 3 1024
     || (not_within S.allowance 0 4
     || (any_to (λ i. not_within (weight_in S.weights i) 0 1000000) 16
     || not_within S.margin 3 5)))
@@ -33,8 +33,8 @@ weightless S = not (any_to (λ i. nat_lt 0 (weight_in S.weights i)) 16)
 pub record SettingsFit (S : Settings) : Type 0 where
   pub lookback_from : 1 ≤ S.lookback
   pub lookback_to : S.lookback ≤ 1000
-  pub ceiling_from : 3 ≤ S.ceiling.0
-  pub ceiling_to : S.ceiling.0 ≤ 1024
+  pub ceiling_from : 3 ≤ S.ceiling
+  pub ceiling_to : S.ceiling ≤ 1024
   pub allowance_to : S.allowance ≤ 4
   pub weight_to : (i : ℕ) → i < 16 → weight_in S.weights i ≤ 1000000
   pub margin_from : 3 ≤ S.margin

@@ -40,7 +40,7 @@ unfoldable pub filled : Sheet → Settings
 filled s =
     record {
       lookback = value_or s.lookback 20;
-      ceiling = record { 0 = value_or s.ceiling 1024 };
+      ceiling = value_or s.ceiling 1024;
       allowance = value_or s.allowance 4;
       weights = starting_weights s.weights;
       margin = value_or s.margin 3;

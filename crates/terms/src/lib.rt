@@ -15,6 +15,8 @@ ghost use Rattle.terms.specs.Transactions.{kind_of, number_of, amount_of, read_t
 ghost use Rattle.terms.specs.Bodies.{push};
 ghost use Rattle.terms.specs.Proposals.{bare_body, slot_of, transactions_of, bad_transactions, bad_previous_set};
 
+use std::marker::Model;
+
 /// A member by its number: 0 to 15 where it is in range.
 #[derive(Debug, Clone, Copy, PartialEq, Eq)]
 pub struct Member(pub u32);
@@ -22,6 +24,16 @@ pub struct Member(pub u32);
 /// A round by its number: 1 to 1,024 where it is in range.
 #[derive(Debug, Clone, Copy, PartialEq, Eq)]
 pub struct Round(pub u32);
+
+impl Model for Round {
+    ghost use Rattle.std.specs.Prelude.{ℕ};
+
+    ghost Value = { ℕ };
+
+    ghost view = { λ r. r.0 };
+
+    ghost inverse = { λ n. record { 0 = n } };
+}
 
 /// What a proposal may ask for. Two are equal where kind, member and amount or number are.
 #[derive(Debug, Clone, Copy, PartialEq, Eq)]
@@ -181,7 +193,7 @@ pub fn has_bad_transactions(allowance: u32, body: Body) -> bool
 /// Check 7: is the previous set of a proposal of `round` empty above round 1, or not empty in it?
 #[tactic(auto, unfolding(crate::specs::Proposals::bad_previous_set))]
 pub fn is_bad_previous_set(round: Round, set: u32) -> bool
-    ensures { result ≡ bad_previous_set round.0 set }
+    ensures { result ≡ bad_previous_set round set }
 {
     (round.0 == 1) != base::is_empty(set)
 }

@@ -63,16 +63,16 @@ module _ (s : State) (t : List ℕ) (a q : ℕ) (row : Row t q) where
   round_same zero = refl
   round_same (suc k) = rw (block-round-held (clear-held t a q row) (suc k)) refl
 
-  last-same : last (chain_of s.settings.ceiling.0 (clear_held t a q) s.blocks) ≡ last (chain_of s.settings.ceiling.0 t s.blocks)
-  last-same = let n = s.settings.ceiling.0 in last-chain n (clear_held t a q) s.blocks ∙ round_same s.blocks ∙ sym (last-chain n t s.blocks)
+  last-same : last (chain_of s.settings.ceiling (clear_held t a q) s.blocks) ≡ last (chain_of s.settings.ceiling t s.blocks)
+  last-same = let n = s.settings.ceiling in last-chain n (clear_held t a q) s.blocks ∙ round_same s.blocks ∙ sym (last-chain n t s.blocks)
 
   pub time-same : refusal (time_checks s t) ≡ 0 → refusal (time_checks s (clear_held t a q)) ≡ 0
   unfolding unknown known_by
   time-same e = rw last-same e
 
-module _ (s : State) (t : List ℕ) (f : Formed s t) (from : 1 < s.round.0) (led : contains (held_set t (s.round.0 - 1)) (leader_on s t (s.round.0 - 1)) ≡ true) (a : ℕ) (m : a < 16) where
+module _ (s : State) (t : List ℕ) (f : Formed s t) (from : 1 < s.round) (led : contains (held_set t (s.round - 1)) (leader_on s t (s.round - 1)) ≡ true) (a : ℕ) (m : a < 16) where
   abbrev r : ℕ
-  r = s.round.0
+  r = s.round
 
   abbrev x : ℕ
   x = leader_on s t (r - 1)
@@ -83,7 +83,7 @@ module _ (s : State) (t : List ℕ) (f : Formed s t) (from : 1 < s.round.0) (led
   abbrev bound : ℕ
   bound = bound_of s.settings.margin (total 16 (weight_in w))
 
-  module _ (q : ℕ) (z : 0 < q) (l : q ≤ s.settings.ceiling.0) (free : mark_at t a q ≡ 0) where
+  module _ (q : ℕ) (z : 0 < q) (l : q ≤ s.settings.ceiling) (free : mark_at t a q ≡ 0) where
     abbrev u : List ℕ
     u = clear_held t a q
 
@@ -93,8 +93,8 @@ module _ (s : State) (t : List ℕ) (f : Formed s t) (from : 1 < s.round.0) (led
     kept : Formed s u
     kept = absent-kept s t f a q m z l
 
-    chain_same : chain_of s.settings.ceiling.0 u s.blocks ≡ chain_of s.settings.ceiling.0 t s.blocks
-    chain_same = chain-absent s.settings.ceiling.0 t a q row free s.blocks
+    chain_same : chain_of s.settings.ceiling u s.blocks ≡ chain_of s.settings.ceiling t s.blocks
+    chain_same = chain-absent s.settings.ceiling t a q row free s.blocks
 
     -- the leader and the committee are as they were
     leader-same : leader_on s u (r - 1) ≡ x

@@ -1,12 +1,12 @@
 -- The checks of a commit, one by one, and what they let pass.
 use Rattle.std.proofs.Common.{◌≡◌, refl, sym, ap, ◌∙◌, Bool, true, false, not, cond, List, [], ◌∷◌, ◌≢◌, ℕ, suc, ◌-◌, ◌%◌, ◌<◌, ◌≤◌, arith, eqb, ltb, get_or, leb-false, lt-ltb, le-ltb, Some, None}
-use native.Mathlib.Decide.{dec_lt}
-use borrow.Author.Tests.{eqb-false}
+use Rattle.base.proofs.Words.{eqb-false}
 use Rattle.base.proofs.Bools.{neither}
 use Rattle.base.proofs.UnionLaws.{in_none}
 use Rattle.base.specs.Checks.{refusal}
 use Rattle.base.proofs.CheckLaws.{refuses, passes, passes-all, cleared, first-refuses, first_passes, numbered}
 use Rattle.base.specs.Sets.{contains}
+use Rattle.base.proofs.SetLaws.{in_member}
 use Rattle.agreement.specs.Rules.{Chain, last}
 use Rattle.agreement.specs.Weights.{total}
 use Rattle.agreement.specs.Commits.{anchor_at}
@@ -16,7 +16,7 @@ use Rattle.terms.specs.Ranges.{weight_in}
 use Rattle.committee.specs.Chain.{chain_of}
 use Rattle.committee.specs.Committees.{bound_of, leader_by}
 use Rattle.chain_committees.specs.BlockChanges.{last_round}
-use Rattle.chain_committees.specs.Fill.{leader_at}
+use Rattle.chain_committees.specs.Fill.{leader_at, fill_to}
 use Rattle.chain_committees.proofs.ChainLaws.{last-chain, last-from}
 use Rattle.refusals.specs.declared.Refusal.{Refusal}
 use Rattle.refusals.specs.Refusals.{number_of}
@@ -27,24 +27,24 @@ use Rattle.state.specs.View.{view}
 use Rattle.state.specs.Formed.{Formed}
 use Rattle.votes.specs.Votes.{votes_for}
 use Rattle.votes.specs.Checks.{time_checks, vote_checks, committee_on, leaders_for}
-use Rattle.votes.specs.Ready.{AnchorLed, AnchorReady}
-use Rattle.votes.proofs.AnchorLaws.{leader_on, anchor-on, unvoted-on, leaders-on}
+use Rattle.votes.specs.Ready.{AnchorLed, AnchorReady, LeadersWanted, VotesReady}
+use Rattle.votes.proofs.AnchorLaws.{leader_on, anchor-on, unvoted-on, leaders-on, leaders-filled}
 use Rattle.terms.specs.declared.sheet.Weight.{Weight}
 use Rattle.committee.specs.declared.committees.Committee.{Committee}
 
 module _ (s : State) (t : List ℕ) where
   abbrev r : ℕ
-  r = s.round.0
+  r = s.round
 
   abbrev m : ℕ
   m = last_round t s.blocks
 
   abbrev chain : Chain Content
-  chain = chain_of s.settings.ceiling.0 t s.blocks
+  chain = chain_of s.settings.ceiling t s.blocks
 
   -- the last block's round, as the table has it
   pub last_told : last chain ≡ m
-  last_told = last-chain s.settings.ceiling.0 t s.blocks
+  last_told = last-chain s.settings.ceiling t s.blocks
 
   -- the checks of a commit are those of time, and then those of the votes
   pub refused_in_time : (e : Refusal) → number_of e ≡ refusal (time_checks s t) → refusal (rules.checks s.settings s.own.0 (view s t) rules.commit) ≡ number_of e
@@ -63,7 +63,7 @@ module _ (s : State) (t : List ℕ) where
 
   pub timely : Formed s t → refusal (time_checks s t) ≡ 0 → Timely
   timely f e =
-      let n = s.settings.ceiling.0 in
+      let n = s.settings.ceiling in
       let p = cleared _ 19 _ (omega arith) e in
       let q = cleared _ 20 _ (omega arith) p.1 in
       let o = neither (eqb (r % 2) 0) (eqb r 1) p.0 in
@@ -117,47 +117,40 @@ module _ (s : State) (t : List ℕ) where
         go false h = absurd (omega (arith, anchor-none h))
 
 -- nobody's certificate of the round before is held
-pub nobody_held : (s : State) (t : List ℕ) → Formed s t → refusal (time_checks s t) ≡ 0 → held_set t (s.round.0 - 1) ≡ 0 → 21 ≡ refusal (vote_checks s t)
-nobody_held s t f e h = anchor-none s t f ((timely s t f e).from) (rw h (in_none (leader_on s t (s.round.0 - 1))))
+pub nobody_held : (s : State) (t : List ℕ) → Formed s t → refusal (time_checks s t) ≡ 0 → held_set t (s.round - 1) ≡ 0 → 21 ≡ refusal (vote_checks s t)
+nobody_held s t f e h = anchor-none s t f ((timely s t f e).from) (rw h (in_none (leader_on s t (s.round - 1))))
 
--- the list of leaders has the leader of the round before
-pub anchor_led : {s : State} {t l : List ℕ} {w : Committee} → AnchorReady s t l w → AnchorLed s t (get_or l (s.round.0 - 1) 0) w
-unfolding leader_at
-anchor_led {s} {t} {l} {w} p = record {
-  formed = p.formed;
-  from = p.from;
-  leader = led_on s t p.formed p.from l p.leaders p.above;
-  committee = p.committee;
-  margin = p.margin;
-}
+-- the leaders that were put, and the committee, are what the votes go by
+pub anchor_ready : {s : State} {t l l₀ : List ℕ} {m : ℕ} {w : Committee} → LeadersWanted s t l₀ → l ≡ fill_to (leader_at s.settings (chain_of s.settings.ceiling t s.blocks)) m (s.round - 1 - m) l₀ → m ≡ last_round t s.blocks → w.weights ≡ committee_on s t s.round → w.margin ≡ s.settings.margin → AnchorReady s t l w
+anchor_ready {s} {t} {l} p h e x k =
+    let f = p.formed in
+    let y = timely s t f p.in_time in
+    let d = leaders-filled s t l _ (rw p.none at h) e in
+    record { leaders = d; anchor = record { formed = f; from = y.from; leader = led_on s t f y.from l d y.above; committee = x; margin = k } }
 
 -- and so have the starting weights, while they are the committees
-pub starting_led : (s : State) (t : List ℕ) (a : ℕ) (w : Committee) → Formed s t → refusal (time_checks s t) ≡ 0 → ((q : ℕ) → q ≤ s.round.0 → committee_on s t q ≡ s.settings.weights) → w.weights ≡ s.settings.weights → w.margin ≡ s.settings.margin → a ≡ leader_by w.weights (s.round.0 - 1)
+pub starting_led : (s : State) (t : List ℕ) (a : ℕ) (w : Committee) → Formed s t → refusal (time_checks s t) ≡ 0 → ((q : ℕ) → q ≤ s.round → committee_on s t q ≡ s.settings.weights) → w.weights ≡ s.settings.weights → w.margin ≡ s.settings.margin → a ≡ leader_by w.weights (s.round - 1)
     → AnchorLed s t a w
+unfolding leader_at
 starting_led s t a w f e h x m l = record {
   formed = f;
   from = (timely s t f e).from;
-  leader = rw (h (s.round.0 - 1) (omega arith), ← x) l;
-  committee = rw (h s.round.0 (omega arith)) x;
+  leader = rw (h (s.round - 1) (omega arith), ← x) l;
+  committee = rw (h s.round (omega arith)) x;
   margin = m;
 }
 
 -- the checks of the votes, by the leader and the committee at hand
-pub votes_told : {s : State} {t : List ℕ} {a : ℕ} {w : Committee} → AnchorLed s t a w
-    → refusal (vote_checks s t) ≡ cond (contains (held_set t (s.round.0 - 1)) a) (cond (ltb (bound_of w.margin (total 16 (weight_in w.weights))) (votes_for t w.weights s.round.0 a)) 0 22) 21
-unfolding leader_at
-votes_told {s} {t} {a} {w} p = rw (p.leader, p.committee, p.margin) (go (contains (held_set t (s.round.0 - 1)) (leader_on s t (s.round.0 - 1))) refl)
-  where
-    v : ℕ
-    v = votes_for t (committee_on s t s.round.0) s.round.0 (leader_on s t (s.round.0 - 1))
+pub no_anchor : {s : State} {t : List ℕ} {a : ℕ} → Formed s t → 1 < s.round → a ≡ leader_on s t (s.round - 1) → contains (held_set t (s.round - 1)) a ≡ false → 21 ≡ refusal (vote_checks s t)
+no_anchor {s} {t} f from e h = anchor-none s t f from (rw e at h)
 
-    b : ℕ
-    b = bound_of s.settings.margin (total 16 (weight_in (committee_on s t s.round.0)))
+module _ {s : State} {t : List ℕ} {a : ℕ} {w : Committee} (p : AnchorLed s t a w) where
+  pub votes_short : contains (held_set t (s.round - 1)) a ≡ true → votes_for t w.weights s.round a ≤ bound_of w.margin (total 16 (weight_in w.weights)) → 22 ≡ refusal (vote_checks s t)
+  votes_short h k = votes-few s t p.formed p.from (rw p.leader at h) (rw (p.leader, p.committee, p.margin) at k)
 
-    go : (h : Bool) → contains (held_set t (s.round.0 - 1)) (leader_on s t (s.round.0 - 1)) ≡ h → refusal (vote_checks s t) ≡ cond h (cond (ltb b v) 0 22) 21
-    go false h = sym (anchor-none s t p.formed p.from h)
-    go true h = by (dec_lt b v)
-      where
-        by : Dec (b < v) → refusal (vote_checks s t) ≡ cond (ltb b v) 0 22
-        by (yes k) = rw (lt-ltb b v k) (sym (votes-enough s t p.formed p.from h k))
-        by (no k) = rw (le-ltb b v (omega arith)) (sym (votes-few s t p.formed p.from h (omega arith)))
+  pub votes_pass : contains (held_set t (s.round - 1)) a ≡ true → bound_of w.margin (total 16 (weight_in w.weights)) < votes_for t w.weights s.round a → 0 ≡ refusal (vote_checks s t)
+  votes_pass h k = votes-enough s t p.formed p.from (rw p.leader at h) (rw (p.leader, p.committee, p.margin) at k)
+
+  -- they can be weighed
+  pub votes_ready : contains (held_set t (s.round - 1)) a ≡ true → VotesReady t w.weights s.round a
+  votes_ready h = record { row = omega (arith, p.formed.long, p.formed.numbers.round_to); member = in_member _ _ h; bounded = w.bounded }

@@ -1,11 +1,11 @@
 -- What is asked where votes are weighed.
-use Rattle.std.specs.Prelude.{◌≡◌, List, ℕ, ◌-◌, ◌<◌, replicate}
+use Rattle.std.specs.Prelude.{◌≡◌, List, ℕ, ◌-◌, ◌<◌, get_or, replicate}
 use Rattle.base.specs.Checks.{refusal}
 use Rattle.store.specs.Table.{Row}
 use Rattle.committee.specs.Totals.{TotalBounded}
-use Rattle.committee.specs.Committees.{leader_by}
+use Rattle.committee.specs.Chain.{chain_of}
 use Rattle.committee.specs.declared.committees.Committee.{Committee}
-use Rattle.chain_committees.specs.BlockChanges.{last_round}
+use Rattle.chain_committees.specs.Fill.{leader_at}
 use Rattle.state.specs.declared.State.{State}
 use Rattle.state.specs.Formed.{Formed}
 use Rattle.votes.specs.Checks.{time_checks, committee_on, leaders_for}
@@ -20,19 +20,16 @@ pub record VotesReady (t : List ℕ) (w : List Weight) (r a : ℕ) : Type 0 wher
 -- the round is above 1, a is the leader of the round before it, 16 for none, and w is the committee of the round
 pub record AnchorLed (s : State) (t : List ℕ) (a : ℕ) (w : Committee) : Type 0 where
   pub formed : Formed s t
-  pub from : 1 < s.round.0
-  pub leader : a ≡ leader_by (committee_on s t (s.round.0 - 1)) (s.round.0 - 1)
-  pub committee : w.weights ≡ committee_on s t s.round.0
+  pub from : 1 < s.round
+  pub leader : a
+      ≡ leader_at s.settings (chain_of s.settings.ceiling t s.blocks) (s.round - 1)
+  pub committee : w.weights ≡ committee_on s t s.round
   pub margin : w.margin ≡ s.settings.margin
 
 -- the state passes the checks of time, l has its leaders by round, and w is the committee of its round
 pub record AnchorReady (s : State) (t l : List ℕ) (w : Committee) : Type 0 where
-  pub formed : Formed s t
-  pub from : 1 < s.round.0
-  pub above : last_round t s.blocks < s.round.0 - 1
   pub leaders : l ≡ leaders_for s t
-  pub committee : w.weights ≡ committee_on s t s.round.0
-  pub margin : w.margin ≡ s.settings.margin
+  pub anchor : AnchorLed s t (get_or l (s.round - 1) 0) w
 
 -- the state passes the checks of time, and l has no leaders yet
 pub record LeadersWanted (s : State) (t l : List ℕ) : Type 0 where

@@ -1,6 +1,6 @@
 // The checks of a commit in a well-formed state, and the leaders by round that they go by.
 
-ghost use Rattle.std.specs.Prelude.{◌≡◌, OnOk, IfErr};
+ghost use Rattle.std.specs.Prelude.{◌≡◌, true, OnOk, IfOk, IfErr};
 ghost use Rattle.base.specs.Checks.{refusal};
 ghost use Rattle.rules.specs.Calls.{checks, commit};
 ghost use Rattle.refusals.specs.Refusals.{number_of, refusal_in};
@@ -12,7 +12,7 @@ use blocks::histories::anchors;
 use chain_committees::chain::Chain;
 use chain_committees::{bonded, leaders};
 use committee::committees::Committee;
-use committee::weighing::leader;
+use committee::leader;
 use member_view::View;
 use refusals::Refusal;
 use state::State;
@@ -42,11 +42,13 @@ pub fn fill_leaders(state: &State, table: &[u32], leaders: &mut [u32; 1025]) -> 
     ensures { AnchorReady state.now table.now leaders.new result }
 {
     let last = bonded::last_round(table, state.blocks);
+    let round = state.round;
     let chain = Chain::new(table, &state.settings, state.blocks);
-    leaders::fill_leaders(chain, last, Round(state.round.0 - 1), leaders)
+    leaders::fill_leaders(chain, last, Round(round.0 - 1), leaders)
 }
 
 // The checks of the votes, 21 and 22, where `anchor` is the leader of the round before and `committee` that of the present one.
+#[tactic(auto, using(crate::proofs::CheckLaws::no_anchor, crate::proofs::CheckLaws::votes_short, crate::proofs::CheckLaws::votes_pass, crate::proofs::CheckLaws::votes_ready))]
 fn check_anchor(
     state: &State,
     table: &[u32],
@@ -56,11 +58,12 @@ fn check_anchor(
     requires { AnchorLed state.now table.now anchor.0 committee.now }
     ensures { refusal_in result ≡ refusal (vote_checks state.now table.now) }
 {
-    let top = Round(state.round.0 - 1);
+    let round = state.round;
+    let top = Round(round.0 - 1);
     if !anchors::is_held_leader(store::held_set(table, top), anchor) {
         return Err(Refusal::NoAnchor);
     }
-    let votes = crate::counting::votes_for(table, &committee.weights, state.round, anchor);
+    let votes = crate::counting::votes_for(table, &committee.weights, round, anchor);
     if votes.0 <= committee.bound().0 {
         return Err(Refusal::VotesShort);
     }
@@ -77,16 +80,19 @@ pub fn check_votes(
     requires { AnchorReady state.now table.now leaders.now committee.now }
     ensures { refusal_in result ≡ refusal (vote_checks state.now table.now) }
 {
-    let top = Round(state.round.0 - 1);
-    let anchor = Member(leaders[top.0 as usize]);
+    let round = state.round;
+    let anchor = Member(leaders[round.0 as usize - 1]);
     check_anchor(state, table, anchor, committee)
 }
 
-/// What the checks of the votes answer a state that passes those of time, as far as it is told without a walk: whether any certificate of the round before is held, and both checks where no block has changed a committee yet. `Ok` tells nothing: which refusals are told early no clause says.
-pub fn check_early(view: &View) -> Result<(), Refusal>
+/// What the checks of the votes answer a state that passes those of time, as far as it is told without a walk: whether any certificate of the round before is held, and both checks where no block has changed a committee yet. The value says whether they pass for sure; `Ok(false)` tells nothing, and how much is told early no clause says.
+#[tactic(auto, using(crate::proofs::CheckLaws::nobody_held))]
+pub fn check_early(view: &View) -> Result<bool, Refusal>
     requires { refusal (time_checks view.now.state.now view.now.table.now) ≡ 0 }
-    ensures { IfErr result (λ e. number_of e
+    ensures err { IfErr result (λ e. number_of e
         ≡ refusal (vote_checks view.now.state.now view.now.table.now)) }
+    ensures ok { IfOk result (λ told. told ≡ true
+        → refusal (vote_checks view.now.state.now view.now.table.now) ≡ 0) }
 {
     let round = view.state.round;
     let top = Round(round.0 - 1);
@@ -95,11 +101,12 @@ pub fn check_early(view: &View) -> Result<(), Refusal>
     }
     let chain = view.chain();
     if !bonded::is_starting(chain, round) {
-        return Ok(());
+        return Ok(false);
     }
     let starting = chain.starting();
     let anchor = leader::leader(&starting.weights, top);
-    check_anchor(view.state, view.table, anchor, &starting)
+    check_anchor(view.state, view.table, anchor, &starting)?;
+    Ok(true)
 }
 
 /// The checks of a well-formed state: 19, 20, 8, 21, 22. Where it passes, `leaders` has the leaders by round, 16 for none.
@@ -111,8 +118,11 @@ pub fn check(view: &View, leaders: &mut [u32; 1025]) -> Result<(), Refusal>
         ≡ leaders_for view.now.state.now view.now.table.now) }
 {
     check_time(view)?;
-    check_early(view)?;
-    leaders.fill(16);
+    let told = check_early(view)?;
+    *leaders = [16; 1025];
     let committee = fill_leaders(view.state, view.table, leaders);
+    if told {
+        return Ok(());
+    }
     check_votes(view.state, view.table, leaders, &committee)
 }

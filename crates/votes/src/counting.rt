@@ -17,8 +17,8 @@ pub fn vote_of(
     author: Member,
     voter: Member,
 ) -> Weight
-    requires { Within table.now voter.0 round.0 × (author.0 < 16) }
-    ensures { result.0 ≡ (if votes_at table.now round.0 author.0 voter.0
+    requires { Within table.now voter.0 round × (author.0 < 16) }
+    ensures { result.0 ≡ (if votes_at table.now round author.0 voter.0
         then weight_in weights.now voter.0 else 0) }
 {
     if store::held(table, voter, round)
@@ -33,8 +33,8 @@ pub fn vote_of(
 /// The weight of all votes of `round` for the certificate of `author`.
 #[tactic(auto, unfolding(crate::specs::Votes::votes_for, base::specs::Folds::sum_to))]
 pub fn votes_for(table: &[u32], weights: &[Weight; 16], round: Round, author: Member) -> Weight
-    requires { VotesReady table.now weights.now round.0 author.0 }
-    ensures { result.0 ≡ votes_for table.now weights.now round.0 author.0 }
+    requires { VotesReady table.now weights.now round author.0 }
+    ensures { result.0 ≡ votes_for table.now weights.now round author.0 }
 {
     Weight(
         (0..16)

@@ -1,6 +1,6 @@
 -- The premises can be met under the margins 4 and 5: the run of specs/Margins is one.
 use Rattle.std.proofs.Common.{◌≡◌, refl, sym, ◌∙◌, subst, true, false, [], ℕ, ◌≤◌, arith, replicate, ltb, ltb-true, le-ltb}
-use native.Mathlib.Decide.{ℕ_discrete}
+use Rattle.base.proofs.Words.{ℕ_discrete}
 use Rattle.base.specs.Checks.{refusal}
 use Rattle.base.proofs.CheckLaws.{passes, passes-all}
 use Rattle.base.specs.Folds.{tab, any_to, all_to, sum_to}
@@ -107,7 +107,12 @@ unfolding not_within
 margin_fits_5 = refl
 
 computed_4 : Computed 4 (settings-fit 4 margin_fits_4)
-unfolding transactions_of slot_of tab states result ruled_refusal after put mark is_place refusal bad_transactions all_in_range bond_in_range bad_previous_set is_empty unknown known_by committee_of committee_by leader_by step_from bonded_from start_of ordered rows row changes_of changes above missing quorum outsider short quorum_weight bound_of any_to sum_to contains mem insert signers_of bad_round same_proposal same_transactions same_transaction unvoted anchor_at leader_of member_at member_below count_below in_chain block_of blocks_of taken committed level in_history listing is_made is_signed is_bounded is_fair is_run all_to
+unfolding transactions_of slot_of tab states result ruled_refusal after put mark is_place refusal bad_transactions
+    all_in_range bond_in_range bad_previous_set is_empty unknown known_by committee_of committee_by leader_by
+    step_from bonded_from start_of ordered rows row changes_of changes above missing quorum outsider short
+    quorum_weight bound_of any_to sum_to contains mem insert signers_of bad_round same_proposal same_transactions
+    same_transaction unvoted anchor_at leader_of member_at member_below count_below in_chain block_of blocks_of
+    taken committed level in_history listing is_made is_signed is_bounded is_fair is_run all_to
 computed_4 =
     record {
       plain = refl;
@@ -123,7 +128,12 @@ computed_4 =
     }
 
 computed_5 : Computed 5 (settings-fit 5 margin_fits_5)
-unfolding transactions_of slot_of tab states result ruled_refusal after put mark is_place refusal bad_transactions all_in_range bond_in_range bad_previous_set is_empty unknown known_by committee_of committee_by leader_by step_from bonded_from start_of ordered rows row changes_of changes above missing quorum outsider short quorum_weight bound_of any_to sum_to contains mem insert signers_of bad_round same_proposal same_transactions same_transaction unvoted anchor_at leader_of member_at member_below count_below in_chain block_of blocks_of taken committed level in_history listing is_made is_signed is_bounded is_fair is_run all_to
+unfolding transactions_of slot_of tab states result ruled_refusal after put mark is_place refusal bad_transactions
+    all_in_range bond_in_range bad_previous_set is_empty unknown known_by committee_of committee_by leader_by
+    step_from bonded_from start_of ordered rows row changes_of changes above missing quorum outsider short
+    quorum_weight bound_of any_to sum_to contains mem insert signers_of bad_round same_proposal same_transactions
+    same_transaction unvoted anchor_at leader_of member_at member_below count_below in_chain block_of blocks_of
+    taken committed level in_history listing is_made is_signed is_bounded is_fair is_run all_to
 computed_5 =
     record {
       plain = refl;

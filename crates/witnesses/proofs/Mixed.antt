@@ -1,6 +1,6 @@
 -- The premises can be met with draws, batches and guests' requests, and over words: the run of specs/Mixed is one.
 use Rattle.std.proofs.Common.{◌≡◌, refl, sym, ap, ◌∙◌, subst, Bool, true, false, ◌&&◌, List, [], ◌∷◌, ℕ, arith, replicate, eqb, ltb, ltb-true, le-ltb}
-use mathlib.Core.Bool.{false≢true}
+use Rattle.base.proofs.Words.{false≢true}
 use Rattle.std.specs.Prelude.{map}
 use Rattle.std.proofs.Math.Seq.{paste}
 use Rattle.base.specs.Checks.{refusal}
@@ -112,7 +112,13 @@ record Computed : Type 0 where
   weight_after : committee_in settings (view_after views (told (answered run)) 1) 4 0 ≡ 8
 
 computed : Computed
-unfolding transactions_of slot_of body_of first_from drawn after_draws tab states result ruled_refusal after put mark is_place refusal bad_transactions all_in_range bond_in_range bad_previous_set is_empty unknown known_by committee_of committee_by leader_by step_from bonded_from start_of ordered rows row changes_of changes above missing quorum outsider short quorum_weight bound_of any_to sum_to contains mem insert signers_of bad_round same_proposal same_transactions same_transaction unvoted anchor_at leader_of member_at member_below count_below in_chain block_of blocks_of taken committed level in_history listing is_made is_signed is_bounded is_fair is_run all_to
+unfolding transactions_of slot_of body_of first_from drawn after_draws tab states result ruled_refusal after put mark
+    is_place refusal bad_transactions all_in_range bond_in_range bad_previous_set is_empty unknown known_by
+    committee_of committee_by leader_by step_from bonded_from start_of ordered rows row changes_of changes above
+    missing quorum outsider short quorum_weight bound_of any_to sum_to contains mem insert signers_of bad_round
+    same_proposal same_transactions same_transaction unvoted anchor_at leader_of member_at member_below
+    count_below in_chain block_of blocks_of taken committed level in_history listing is_made is_signed is_bounded
+    is_fair is_run all_to
 computed =
     record {
       met = refl;

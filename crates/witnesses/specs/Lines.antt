@@ -47,7 +47,7 @@ answered (x ∷ l) = x.calls ++ answered l
 -- ---- words that are handed in
 
 abbrev pub proposal_words : Proposal → List ℕ
-proposal_words p = p.author.0 ∷ p.round.0 ∷ body_words p.body
+proposal_words p = p.author.0 ∷ p.round ∷ body_words p.body
 
 abbrev pub certificate_words : Certificate → List ℕ
 certificate_words c = proposal_words c.proposal ++ (c.endorsers ∷ [])
@@ -55,7 +55,7 @@ certificate_words c = proposal_words c.proposal ++ (c.endorsers ∷ [])
 abbrev pub record_of : Certificate → CertificateRecord
 record_of c = record {
   author = c.proposal.author.0;
-  round = c.proposal.round.0;
+  round = c.proposal.round;
   body = body_words c.proposal.body;
   endorsers = c.endorsers;
 }

@@ -29,7 +29,7 @@ sheet m = record {
 abbrev pub settings : ℕ → Settings
 settings m = record {
   lookback = 1;
-  ceiling = record { 0 = 4 };
+  ceiling = 4;
   allowance = 4;
   weights = weight 3 ∷ weight 3 ∷ weight 1 ∷ weight 1 ∷ replicate 12 (weight 0);
   margin = m;

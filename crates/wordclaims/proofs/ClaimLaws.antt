@@ -33,13 +33,13 @@ pub commits_hang_over_words : (x : Opening) (l : List LibraryCall) → AllTyped 
 commits_hang_over_words x l i = commits_hang_on_pivots (engine_of (left_after x l)) (words_reach x l i)
 
 -- the engine refuses the read as its checks do
-read-refusal : (s : State) (t : List ℕ) (m r : ℕ) → refusal_for (record { state = s; table = t }) (aside (certificate (record { 0 = m }) (record { 0 = r }))) ≡ certificate_refusal s t m r
+read-refusal : (s : State) (t : List ℕ) (m r : ℕ) → refusal_for (record { state = s; table = t }) (aside (certificate (record { 0 = m }) r)) ≡ certificate_refusal s t m r
 unfolding certificate_refusal
 read-refusal s t m r = refl
 
 -- a read that the engine shows is accepted over words
 read-accepted : (w t o : List ℕ) (p : Content) (d : ℕ) → state_reads w ≡ true → held_length ≤ length o → Shows (engine_in w t) p.author p.round p d
-    → (result_of w t o true (aside (certificate (record { 0 = p.author }) (record { 0 = p.round })))).refusal ≡ 0
+    → (result_of w t o true (aside (certificate (record { 0 = p.author }) p.round))).refusal ≡ 0
 unfolding result_of
 read-accepted w t o p d r m s = rw (r, le-leb held_length (length o) m) (read-refusal (state_in w) t p.author p.round ∙ s.accepted)
 
@@ -53,5 +53,5 @@ stored_passes_on x l i p d k o m =
     subst (λ (e : Engine). Shows e p.author p.round p d) (sym g.gives) (stored_shown_then (engine-opening x) (requests_in l) (asked_in_range (engine_opened x) l i) p d t) in
     let h : Holds v.table p.author p.round p d = stored_held x l i p d k in
     let a = read-accepted v.state v.table o p d g.can_read m s in
-    let u = passes_on v.state v.table o (record { 0 = p.author }) (record { 0 = p.round }) a in
+    let u = passes_on v.state v.table o (record { 0 = p.author }) p.round a in
     record { accepted = a; can_read = u.reads; proposal = u.proposal ∙ h.proposal; endorsers = u.endorsers ∙ h.endorsers }

@@ -1,6 +1,6 @@
 -- What a port has given by the library's answers is a listing's prefix, and calls leave other ports.
 use Rattle.std.proofs.Common.{◌≡◌, refl, sym, ap, ◌∙◌, Bool, true, false, cond, true≢false, not, ◌&&◌, List, [], ◌∷◌, ◌++◌, ◌≢◌, ℕ, suc, ◌<◌, eqb, leb, ltb, length, arith, eq-eqb, eqb-true, Option, Some, None}
-use native.Mathlib.Decide.{ℕ_discrete}
+use Rattle.base.proofs.Words.{ℕ_discrete}
 use Rattle.base.specs.Options.{if_there}
 use Rattle.terms.specs.declared.Certificate.{Certificate}
 use Rattle.state.specs.Answers.{if_accepted}

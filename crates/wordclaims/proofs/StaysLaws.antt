@@ -61,10 +61,10 @@ stored_held x l i p d k =
     (stored_held_then (engine-opening x) (requests_in l) (asked_in_range (engine_opened x) l i) p d (took_stored (after_opening x) (engine_opened x) (opening-gives x) p d l i k))
 
 -- and what is held was taken
-pub held_stored : (x : Opening) (l : List LibraryCall) → AllTyped l → (a r : ℕ) (p : Content) (d : ℕ) → r ≤ (engine_of (left_after x l)).state.settings.ceiling.0 → Holds (left_after x l).table a r p d
+pub held_stored : (x : Opening) (l : List LibraryCall) → AllTyped l → (a r : ℕ) (p : Content) (d : ℕ) → r ≤ (engine_of (left_after x l)).state.settings.ceiling → Holds (left_after x l).table a r p d
     → TookSince (after_opening x) l p d
 held_stored x l i a r p d to h =
     let g = (words_give_engines x l i).gives in
     stored_took (after_opening x) (engine_opened x) (opening-gives x) p d l i
-    (held_stored_then (engine-opening x) (requests_in l) (asked_in_range (engine_opened x) l i) a r p d (subst (λ (e : Engine). r ≤ e.state.settings.ceiling.0) g to)
+    (held_stored_then (engine-opening x) (requests_in l) (asked_in_range (engine_opened x) l i) a r p d (subst (λ (e : Engine). r ≤ e.state.settings.ceiling) g to)
     (subst (λ (e : Engine). Holds e.table a r p d) g h))

@@ -67,7 +67,7 @@ TookSince x (c ∷ l) p d = Took (after_list x l) c p d
 -- what forgelilac_certificate comes to, of author and round of p, with the stretch o lent
 abbrev pub certificate_read : Words → Content → List ℕ → Result
 certificate_read x p o =
-    answer_on x (by_host (aside (certificate (record { 0 = p.author }) (record { 0 = p.round })) o))
+    answer_on x (by_host (aside (certificate (record { 0 = p.author }) p.round) o))
 
 -- it is accepted, and what it writes can be handed to forgelilac_accept: the proposal p and the endorsers d
 pub record PassesOn (x : Words) (p : Content) (d : ℕ) (o : List ℕ) : Type 0 where

@@ -48,6 +48,6 @@ pub fn stored_held()
 /// What the table holds an accepted certify or accept took since the last accepted open, with those endorsers.
 pub fn held_stored()
     ensures { (x : Opening) (l : List LibraryCall) → AllTyped l → (a r : ℕ) (p : Content) (d : ℕ)
-        → r ≤ (engine_of (left_after x l)).state.settings.ceiling.0
+        → r ≤ (engine_of (left_after x l)).state.settings.ceiling
         → Holds (left_after x l).table a r p d → TookSince (after_opening x) l p d }
 {}

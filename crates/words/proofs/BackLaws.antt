@@ -1,7 +1,7 @@
 -- The words of a state give it back.
 use Rattle.std.proofs.Common.{◌≡◌, refl, ap, ◌∙◌, Bool, true, false, cond, ◌&&◌, List, [], ◌∷◌, ◌++◌, ℕ, zero, suc, ◌+◌, ◌<◌, ◌≤◌, arith, length, length-append, eqb, leb, ltb, lt-ltb}
 use Rattle.std.specs.Prelude.{Option, Some, None, is_some, unwrap_or, option_map}
-use lib.Seq.{paste, length-paste}
+use Rattle.base.proofs.Words.{paste, length-paste}
 use Rattle.base.proofs.Bools.{cond_same}
 use Rattle.base.proofs.PasteLaws.{paste-inside}
 use Rattle.base.specs.Folds.{tab}
@@ -45,8 +45,8 @@ pub length-state : (s : State) → length (state_words s) ≡ state_length
 unfolding state_words
 length-state s =
     let w = weight_words s.settings.weights in
-    let head = s.own.0 ∷ s.settings.lookback ∷ s.settings.ceiling.0 ∷ s.settings.allowance ∷ [] in
-    let middle = s.round.0 ∷ cond (is_proposing s) 1 0 ∷ s.blocks ∷ [] in
+    let head = s.own.0 ∷ s.settings.lookback ∷ s.settings.ceiling ∷ s.settings.allowance ∷ [] in
+    let middle = s.round ∷ cond (is_proposing s) 1 0 ∷ s.blocks ∷ [] in
     let b = body_words (own_body s) in
     length-append (head ++ w ++ middle ++ b) (s.settings.margin ∷ s.rights.0 ∷ [])
     ∙ ap (λ (k : ℕ). k + 2) (length-append (head ++ w ++ middle) b ∙ ap (λ (k : ℕ). length (head ++ w ++ middle) + k) (length-body (own_body s)))
@@ -72,7 +72,7 @@ head-back : (s : State) → settings_in (state_words s) ≡ (tidy s).settings
 unfolding settings_in state_words body_words used_words weight_words tab sixteen_weights tidy
 head-back s = refl
 
-numbers-back : (s : State) → (word (state_words s) 0 ≡ s.own.0) × ((word (state_words s) 20 ≡ s.round.0) × (word (state_words s) 22 ≡ s.blocks))
+numbers-back : (s : State) → (word (state_words s) 0 ≡ s.own.0) × ((word (state_words s) 20 ≡ s.round) × (word (state_words s) 22 ≡ s.blocks))
 unfolding state_words weight_words tab
 numbers-back s = (refl, (refl, refl))
 

@@ -1,6 +1,6 @@
 -- Laws of words put over a stretch: one after the other, and read back.
 use Rattle.std.proofs.Common.{◌≡◌, ap, ap₂, sym, ◌∙◌, List, ◌++◌, append_assoc, ℕ, ◌+◌, ◌<◌, ◌≤◌, arith, length, get_or, take, drop, take_all, drop-drop}
-use lib.Seq.{paste, take-append-add, take-paste, drop-paste}
+use Rattle.base.proofs.Words.{paste, take-append-add, take-paste, drop-paste}
 use Rattle.base.proofs.FoldLaws.{length-tab, get_d_tab, tab_get}
 use Rattle.terms.specs.declared.sheet.Weight.{Weight}
 use Rattle.terms.specs.Ranges.{weight_in}

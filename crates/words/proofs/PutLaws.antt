@@ -1,6 +1,6 @@
 -- Laws of the words of a held certificate, of a bond's effect and of a state, put piece by piece.
 use Rattle.std.proofs.Common.{◌≡◌, refl, ap, ap₂, ◌∙◌, cond, List, [], ◌∷◌, ◌++◌, ℕ, ◌+◌, ◌≤◌, arith, length, length-append}
-use lib.Seq.{paste}
+use Rattle.base.proofs.Words.{paste}
 use Rattle.terms.specs.declared.Proposal.{Proposal}
 use Rattle.committee.specs.declared.effects.Effect.{Effect}
 use Rattle.state.specs.declared.State.{State}
@@ -15,10 +15,10 @@ use Rattle.words.specs.Effects.{effect_words}
 use Rattle.words.specs.States.{state_words}
 
 pub held_put : (p : Proposal) (d k : ℕ) (t : List ℕ) → held_length ≤ length t
-    → paste (paste (paste t 0 (p.author.0 ∷ p.round.0 ∷ []) 2) 2 (body_words p.body) body_length) proposal_length (d ∷ k ∷ []) 2 ≡ paste t 0 (held_words p d k) held_length
+    → paste (paste (paste t 0 (p.author.0 ∷ p.round ∷ []) 2) 2 (body_words p.body) body_length) proposal_length (d ∷ k ∷ []) 2 ≡ paste t 0 (held_words p d k) held_length
 unfolding held_words
 held_put p d k t h =
-    let head = p.author.0 ∷ p.round.0 ∷ [] in
+    let head = p.author.0 ∷ p.round ∷ [] in
     let l = length-body p.body in
     ap (λ (z : List ℕ). paste z proposal_length (d ∷ k ∷ []) 2) (paste-append t 0 head (body_words p.body) 2 body_length refl (omega arith))
     ∙ paste-append t 0 (head ++ body_words p.body) (d ∷ k ∷ []) proposal_length 2 (length-append head (body_words p.body) ∙ ap (λ (z : ℕ). 2 + z) l) (omega arith)
@@ -37,9 +37,9 @@ pub state_put : (s : State) (t : List ℕ) → state_length ≤ length t
     → paste
     (paste
     (paste
-    (paste (paste t 0 (s.own.0 ∷ s.settings.lookback ∷ s.settings.ceiling.0 ∷ s.settings.allowance ∷ []) 4) 4 (weight_words s.settings.weights) 16)
+    (paste (paste t 0 (s.own.0 ∷ s.settings.lookback ∷ s.settings.ceiling ∷ s.settings.allowance ∷ []) 4) 4 (weight_words s.settings.weights) 16)
     20
-    (s.round.0 ∷ cond (is_proposing s) 1 0 ∷ s.blocks ∷ [])
+    (s.round ∷ cond (is_proposing s) 1 0 ∷ s.blocks ∷ [])
     3)
     23
     (body_words (own_body s))
@@ -50,8 +50,8 @@ pub state_put : (s : State) (t : List ℕ) → state_length ≤ length t
     ≡ paste t 0 (state_words s) state_length
 unfolding state_words
 state_put s t h =
-    let head = s.own.0 ∷ s.settings.lookback ∷ s.settings.ceiling.0 ∷ s.settings.allowance ∷ [] in
-    let middle = s.round.0 ∷ cond (is_proposing s) 1 0 ∷ s.blocks ∷ [] in
+    let head = s.own.0 ∷ s.settings.lookback ∷ s.settings.ceiling ∷ s.settings.allowance ∷ [] in
+    let middle = s.round ∷ cond (is_proposing s) 1 0 ∷ s.blocks ∷ [] in
     let w = weight_words s.settings.weights in
     let b = body_words (own_body s) in
     let l : length (head ++ w) ≡ 20 = length-append head w ∙ ap (λ (z : ℕ). 4 + z) (length-weights s.settings.weights) in

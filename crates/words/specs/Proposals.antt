@@ -13,7 +13,7 @@ proposal_reads w = nat_le proposal_length (length w) && body_reads w PROPOSAL_BO
 unfoldable pub proposal_in : List ℕ → Proposal
 proposal_in w = record {
   author = record { 0 = word w PROPOSAL_AUTHOR };
-  round = record { 0 = word w PROPOSAL_ROUND };
+  round = word w PROPOSAL_ROUND;
   body = body_in w PROPOSAL_BODY;
 }
 
@@ -26,5 +26,5 @@ certificate_in w = record { proposal = proposal_in w; endorsers = word w proposa
 
 -- a held certificate as it is read: the seventeen words of the certificate, then the number of its block
 unfoldable pub held_words : Proposal → ℕ → ℕ → List ℕ
-held_words p endorsers block = (p.author.0 ∷ p.round.0 ∷ []) ++ body_words p.body
+held_words p endorsers block = (p.author.0 ∷ p.round ∷ []) ++ body_words p.body
     ++ (endorsers ∷ block ∷ [])

@@ -24,7 +24,7 @@ weights_in w = tab (λ i. weight (word w (STATE_WEIGHTS + i))) 16
 unfoldable pub settings_in : List ℕ → Settings
 settings_in w = record {
   lookback = word w STATE_LOOKBACK;
-  ceiling = record { 0 = word w STATE_CEILING };
+  ceiling = word w STATE_CEILING;
   allowance = word w STATE_ALLOWANCE;
   weights = weights_in w;
   margin = word w STATE_MARGIN;
@@ -38,7 +38,7 @@ state_in w =
     record {
       own = record { 0 = word w STATE_OWN };
       settings = settings_in w;
-      round = record { 0 = word w STATE_ROUND };
+      round = word w STATE_ROUND;
       proposal = own_proposal_in w;
       blocks = word w STATE_BLOCKS;
       rights = record { 0 = word w STATE_RIGHTS };
@@ -49,8 +49,8 @@ state_in w =
 -- own number, lookback, ceiling, allowance; sixteen weights; round, is there a proposal, number of blocks; the proposal's body, all 0 where there is none; margin, rights
 unfoldable pub state_words : State → List ℕ
 state_words s =
-    (s.own.0 ∷ s.settings.lookback ∷ s.settings.ceiling.0 ∷ s.settings.allowance ∷ [])
+    (s.own.0 ∷ s.settings.lookback ∷ s.settings.ceiling ∷ s.settings.allowance ∷ [])
     ++ weight_words s.settings.weights
-    ++ (s.round.0 ∷ (if is_proposing s then 1 else 0) ∷ s.blocks ∷ [])
+    ++ (s.round ∷ (if is_proposing s then 1 else 0) ∷ s.blocks ∷ [])
     ++ body_words (own_body s)
     ++ (s.settings.margin ∷ s.rights.0 ∷ [])

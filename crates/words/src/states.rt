@@ -84,10 +84,12 @@ pub fn put_state(out: &mut [u32], state: &State)
     ensures { out.new ≡ paste out.old 0 (state_words state.now) state_length }
 {
     let settings = &state.settings;
+    let ceiling = settings.ceiling;
+    let round = state.round;
     let head = [
         state.own.0,
         settings.lookback,
-        settings.ceiling.0,
+        ceiling.0,
         settings.allowance,
     ];
     bodies::stretch::put(out, STATE_OWN, &head);
@@ -95,7 +97,7 @@ pub fn put_state(out: &mut [u32], state: &State)
     bodies::stretch::put(
         out,
         STATE_ROUND,
-        &[state.round.0, flag(state.proposal.is_some()), state.blocks],
+        &[round.0, flag(state.proposal.is_some()), state.blocks],
     );
     bodies::put_body(out, STATE_BODY, own_body(state));
     bodies::stretch::put(out, STATE_MARGIN, &[settings.margin, state.rights.0]);

@@ -9,7 +9,7 @@ ghost use Rattle.chain_committees.specs.BlockChanges.{slot_change, place_change,
 ghost use Rattle.chain_committees.specs.LinkRuns.{run_over, row_over, rows_over, run_end};
 ghost use Rattle.chain_committees.specs.Ready.{SlotReady, RecordReady, RunReady, RowReady, BlockReady};
 
-use committee::weighing;
+use committee::change;
 use terms::sheet::Weight;
 use terms::{Member, Round};
 
@@ -23,21 +23,21 @@ fn apply_slot(
     index: u32,
     weights: &mut [Weight; 16],
 )
-    requires { SlotReady table.now author.0 round.0 count index weights.old }
-    ensures { weights.new ≡ slot_change table.now author.0 round.0 index weights.old }
+    requires { SlotReady table.now author.0 round count index weights.old }
+    ensures { weights.new ≡ slot_change table.now author.0 round index weights.old }
 {
     let kind = store::record::kind_at(table, author, round, index);
     let number = store::record::number_at(table, author, round, index);
     let amount = store::record::amount_at(table, author, round, index);
-    weighing::change::apply(weights, index < count, kind, number, amount);
+    change::apply(weights, index < count, kind, number, amount);
 }
 
 /// Applies the transactions of a record, in order, to the committee `weights`. All four slots are looked at, however many there are.
 #[tactic(auto, using(base::proofs::FoldLaws::fold_to_none, base::proofs::FoldLaws::fold_more, crate::proofs::BlockChangeLaws::record_slots, crate::proofs::BlockChangeLaws::record_empty, crate::proofs::BoundLaws::slots_total))]
 pub fn apply_record(table: &[u32], author: Member, round: Round, weights: &mut [Weight; 16])
-    requires { RecordReady table.now author.0 round.0 weights.old }
+    requires { RecordReady table.now author.0 round weights.old }
     ensures { weights.new
-        ≡ changes (content_at table.now author.0 round.0).transactions weights.old }
+        ≡ changes (content_at table.now author.0 round).transactions weights.old }
 {
     let count = store::record::count(table, author, round);
     if count == 0 {
@@ -61,7 +61,7 @@ fn apply_from(table: &[u32], from: u32, place: u32, weights: &mut [Weight; 16])
 }
 
 // The places of a row from `place` on, one after the other: those below `end` and not below `from`. Gives the first one from `end` on.
-#[tactic(auto, using(crate::proofs::RunLaws::run_stop, crate::proofs::RunLaws::end_stop))]
+#[tactic(auto, using(crate::proofs::RunLaws::run_stop, crate::proofs::RunLaws::end_stop, crate::proofs::RunLaws::run_left, crate::proofs::RunLaws::end_left, crate::proofs::RunLaws::run_all, crate::proofs::RunLaws::end_all, crate::proofs::BoundLaws::from_total))]
 fn apply_run(
     table: &[u32],
     next: &[u32],
@@ -106,6 +106,7 @@ fn apply_row(
 
 /// Applies `block`, whose rows go up to the ceiling and start with member `start`, 16 for none, to the committee `weights`.
 /// Blocks count from 1, 511 at most. `head` and `next` link the places of each block.
+// Seven parameters: a walk lends its parts one by one, since it changes its own weights.
 #[tactic(auto, using(crate::proofs::BoundLaws::rows_total))]
 pub(crate) fn apply_block(
     table: &[u32],
@@ -116,8 +117,8 @@ pub(crate) fn apply_block(
     ceiling: Round,
     weights: &mut [Weight; 16],
 )
-    requires { BlockReady table.now head.now next.now block start.0 ceiling.0 weights.old }
-    ensures { weights.new ≡ rows_over (place_change table.now block) start.0 ceiling.0 weights.old }
+    requires { BlockReady table.now head.now next.now block start.0 ceiling weights.old }
+    ensures { weights.new ≡ rows_over (place_change table.now block) start.0 ceiling weights.old }
 {
     let end = ceiling.0 * 16 + 16;
     let mut place = head[block as usize];

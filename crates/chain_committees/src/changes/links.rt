@@ -1,7 +1,7 @@
 // The certificates of each block, by one pass over the held ones, going down. The place of member m and round r is number 16 r + m.
 // head[k] is the first place of block k, and next[p] the first one after place p of the same block; where there is none it is the end, one above the last place.
 
-ghost use Rattle.std.specs.Prelude.{◌≡◌, ℕ, ◌+◌, ◌*◌, ◌<◌, ◌≤◌, get_or, set, length};
+ghost use Rattle.std.specs.Prelude.{◌≡◌, ℕ, ◌+◌, ◌*◌, ◌<◌, ◌≤◌, nat_le, get_or, set, length};
 ghost use Rattle.chain_committees.specs.Rows.{RowsTo, RowRoom};
 ghost use Rattle.chain_committees.specs.Links.{Links, AllLinked};
 ghost use Rattle.chain_committees.specs.LinkRuns.{run_end};
@@ -17,6 +17,13 @@ pub const FEW: usize = 16 * (64 + 1);
 /// The places of the rounds from 0 up to 1,024, sixteen each.
 pub const MANY: usize = 16 * (1024 + 1);
 
+/// Do the places of the rounds up to `ceiling` fit into `FEW` words?
+pub fn are_few(ceiling: Round) -> bool
+    ensures { result ≡ nat_le ceiling 64 }
+{
+    ceiling.0 <= FEW_ROUNDS
+}
+
 // `place` becomes the first one of `block`.
 fn link(head: &mut [u32; 512], next: &mut [u32], block: u32, place: u32)
     requires { (block < 512) × (place < length next.old) }
@@ -29,9 +36,9 @@ fn link(head: &mut [u32; 512], next: &mut [u32], block: u32, place: u32)
 
 // A place, if it is held and in a block.
 fn link_place(table: &[u32], head: &mut [u32; 512], next: &mut [u32], author: Member, round: Round)
-    requires { RowRoom table.now next.old round.0 × (author.0 < 16) }
-    ensures { (e : ℕ) → Links table.now (round.0 * 16 + author.0 + 1) e head.old next.old
-        → Links table.now (round.0 * 16 + author.0) e head.new next.new }
+    requires { RowRoom table.now next.old round × (author.0 < 16) }
+    ensures { (a e : ℕ) → a ≡ round * 16 + author.0 → Links table.now (a + 1) e head.old next.old
+        → Links table.now a e head.new next.new }
 {
     if !store::held(table, author, round) {
         return;
@@ -44,9 +51,9 @@ fn link_place(table: &[u32], head: &mut [u32; 512], next: &mut [u32], author: Me
 
 // The places of a row.
 fn link_row(table: &[u32], head: &mut [u32; 512], next: &mut [u32], round: Round)
-    requires { RowRoom table.now next.old round.0 }
-    ensures { (e : ℕ) → Links table.now (round.0 * 16 + 16) e head.old next.old
-        → Links table.now (round.0 * 16) e head.new next.new }
+    requires { RowRoom table.now next.old round }
+    ensures { (a e : ℕ) → a ≡ round * 16 → Links table.now (a + 16) e head.old next.old
+        → Links table.now a e head.new next.new }
 {
     if store::held_set(table, round) == 0 {
         return;
@@ -59,9 +66,9 @@ fn link_row(table: &[u32], head: &mut [u32; 512], next: &mut [u32], round: Round
 /// Links the places of the rounds 1 to `ceiling`, where none is linked yet: `head` has the end at each block.
 /// Both lists are written; `next` has a word for each place, and those of places in no block stay.
 pub(crate) fn link_rows(table: &[u32], head: &mut [u32; 512], next: &mut [u32], ceiling: Round)
-    requires { RowsTo table.now ceiling.0
-        × Links table.now (ceiling.0 * 16 + 16) (ceiling.0 * 16 + 16) head.old next.old }
-    ensures { AllLinked table.now ceiling.0 head.new next.new }
+    requires { RowsTo table.now ceiling
+        × Links table.now (ceiling * 16 + 16) (ceiling * 16 + 16) head.old next.old }
+    ensures { AllLinked table.now ceiling head.new next.new }
 {
     let end = ceiling.0;
     for i in 0..end {
@@ -71,9 +78,9 @@ pub(crate) fn link_rows(table: &[u32], head: &mut [u32; 512], next: &mut [u32], 
 
 /// The places of each block of a table, up to the ceiling: gives the first place of each block, and writes the others into `next`, which has a word for each place.
 pub fn linked(table: &[u32], next: &mut [u32], ceiling: Round) -> [u32; 512]
-    requires rows { RowsTo table.now ceiling.0 }
-    requires places { ceiling.0 * 16 + 16 ≤ length next.old }
-    ensures { AllLinked table.now ceiling.0 result next.new }
+    requires rows { RowsTo table.now ceiling }
+    requires places { ceiling * 16 + 16 ≤ length next.old }
+    ensures { AllLinked table.now ceiling result next.new }
 {
     let mut head = [ceiling.0 * 16 + 16; 512];
     link_rows(table, &mut head, next, ceiling);
@@ -81,7 +88,7 @@ pub fn linked(table: &[u32], next: &mut [u32], ceiling: Round) -> [u32; 512]
 }
 
 /// The first place from `end` on, going by `next` from `place` of the same row. No more than sixteen steps are made.
-#[tactic(auto, using(crate::proofs::RunLaws::end_stop))]
+#[tactic(auto, using(crate::proofs::RunLaws::end_stop, crate::proofs::RunLaws::end_left, crate::proofs::RunLaws::end_all))]
 pub fn run_end(next: &[u32], end: u32, place: u32) -> u32
     requires { end ≤ length next.now }
     ensures { result ≡ run_end next.now end 16 place }

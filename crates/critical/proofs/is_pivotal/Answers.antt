@@ -3,13 +3,19 @@ use Rattle.critical.proofs.LackLaws.{leader-low, vote_le, place, before-critical
 use Rattle.critical.proofs.is_pivotal.Goals as goal
 
 pub vote_of-vote-requires : goal.vote_of-vote-requires
-vote_of-vote-requires c = let p = c.requires in (place p.0 p.1.0, leader-low p.0)
+vote_of-vote-requires c = let p = c.requires in (place p.0.passes p.1.0, rw p.0.anchor.leader (leader-low p.0.passes))
 
 pub overflow_sub-result : goal.overflow_sub-result
-overflow_sub-result c = let p = c.requires in vote_le p.0 p.1.0.member (rw c.if-round-state.true at c.vote_of-vote.ensures)
+overflow_sub-result c = let p = c.requires in
+    let a = p.0.anchor in
+    let e = rw (c.round.view_is, c.now.view_is) at c.if-round-now.true in
+    rw p.0.its_votes (rw (a.leader, a.committee) (vote_le p.0.passes p.1.0.member (rw (a.leader, a.committee, e) at c.vote_of-vote.ensures)))
 
-pub returns-then-round-state : goal.returns-then-round-state
-returns-then-round-state c = let p = c.requires in sym (now-critical p.0 p.1.0 p.1.1 c.if-round-state.true _ (rw c.if-round-state.true at c.vote_of-vote.ensures))
+pub returns-then-round-now : goal.returns-then-round-now
+returns-then-round-now c = let p = c.requires in
+    let a = p.0.anchor in
+    let e = rw (c.round.view_is, c.now.view_is) at c.if-round-now.true in
+    rw (p.0.its_votes, c.bound.ensures, a.leader, a.committee, a.margin) (sym (now-critical p.0.passes p.1.0 p.1.1 e _ (rw (a.leader, a.committee, e) at c.vote_of-vote.ensures)))
 
-pub returns-else-round-state : goal.returns-else-round-state
-returns-else-round-state c = let p = c.requires in sym (before-critical p.0 p.1.0 p.1.1 c.if-round-state.false)
+pub returns-else-round-now : goal.returns-else-round-now
+returns-else-round-now c = let p = c.requires in rw p.0.anchor.leader (sym (before-critical p.0.passes p.1.0 p.1.1 (rw (c.round.view_is, c.now.view_is) at c.if-round-now.false)))

@@ -10,4 +10,4 @@ pub record Listing (s : State) (t₀ : List ℕ) (q : ℕ) (list₀ : List ℕ) 
   pub listed : Putting list₀ list at to (place_words (critical_in s t₀ q i)) (2 * i) 16 i
 
 abbrev pub invariant-loop-i : goal.invariant-loop-i
-invariant-loop-i l = Listing l.state l.initial.table l.round.0 l.initial.list l.at l.table l.list l.to l.i
+invariant-loop-i l = Listing l.state l.initial.table l.round l.initial.list l.at l.table l.list l.to l.i

@@ -7,7 +7,7 @@ use Rattle.spans.proofs.count_span.Given as goal
 -- the first i of n blocks are counted
 pub record Counted (S : Settings) (t : List ℕ) (blocks m n i c : ℕ) : Type 0 where
   pub so_far : i ≤ n
-  pub count : c ≡ count_after S (chain_of S.ceiling.0 t blocks) m i
+  pub count : c ≡ count_after S (chain_of S.ceiling t blocks) m i
   pub most : c ≤ 16400 * i
 
 abbrev pub invariant-loop-i : goal.invariant-loop-i

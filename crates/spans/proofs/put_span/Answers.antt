@@ -5,22 +5,33 @@ use Rattle.spans.proofs.put_span.Goals as goal
 
 pub loop-i-init : goal.loop-i-init
 loop-i-init c = let a = c.args.walk.now.chain in
-    record { so_far = omega arith; kept = refl; puts = puts_none (held-none a.settings.now a.table.now _ c.args.known) }
+    (refl, record { so_far = omega arith; kept = refl; puts = puts_none (held-none a.settings.now a.table.now _ c.args.known) })
 
-pub put-to-requires-clause-room : goal.put-to-requires-clause-room
-put-to-requires-clause-room c = let a = c.args.walk.now.chain in
-    let x = c.loop-i in
-    omega (arith, span-room a.settings.now a.table.now a.blocks c.args.known c.args.number x.i (omega arith) c.requires.within, c.requires.room, x.invariant.kept, x.invariant.puts.past, x.invariant.puts.room)
+pub start-start-requires : goal.start-start-requires
+start-start-requires c = rw c.loop-i.invariant.0 (record { before = omega (arith, c.requires.within); caches = c.requires.caches })
+
+pub put-to-requires : goal.put-to-requires
+put-to-requires c = let a = c.args.walk.now.chain in
+    let x = c.loop-i.invariant.1 in
+    rw (c.start-start.ensures.chain, c.loop-i.invariant.0)
+    (record {
+      before = omega (arith, c.requires.within);
+      start = rw c.loop-i.invariant.0 at c.start-start.ensures.start;
+      room = omega (arith, span-room a.settings.now a.table.now a.blocks c.args.known c.args.number c.loop-i.i (omega arith) c.requires.within, c.requires.room, x.kept, x.puts.past, x.puts.room);
+    })
 
 pub loop-i-preserved : goal.loop-i-preserved
 loop-i-preserved c = let a = c.args.walk.now.chain in
-    let x = c.loop-i in
+    let x = c.loop-i.invariant.1 in
     let h = c.requires.within in
-    record {
-      so_far = omega arith;
-      kept = c.put-to.auto.list ∙ x.invariant.kept;
-      puts =
-          puts_as (held-next a.settings.now a.table.now a.blocks c.args.known x.i (omega arith))
-          (omega (arith, count-next a.settings.now a.table.now a.blocks c.args.known x.i (omega arith)))
-          (puts_then x.invariant.puts c.put-to.ensures);
-    }
+    let e = c.start-start.ensures.chain ∙ c.loop-i.invariant.0 in (
+      e,
+      record {
+        so_far = omega arith;
+        kept = c.put-to.auto.list ∙ x.kept;
+        puts =
+            puts_as (held-next a.settings.now a.table.now a.blocks c.args.known c.loop-i.i (omega arith))
+            (omega (arith, count-next a.settings.now a.table.now a.blocks c.args.known c.loop-i.i (omega arith)))
+            (puts_then x.puts (rw e at c.put-to.ensures));
+      },
+    )

@@ -13,4 +13,4 @@ returns-in_err-effect c = let s = c.in-Some.ensures in
     let x = rw s.1 at c.in_err-effect.ensures in
     let a = c.args in
     let n : refusal_in c.from_residual.result ≡ number_of c.in_err-effect.field-0.0 = search rules in
-    rw n (shown _ _ _ (effect (record { 0 = a.member }) (record { 0 = a.round }) a.amount) {A = Effect} (Err c.in_err-effect.field-0.0) [] s.0 c.if-out-lt-EFFECT.false x.refusal refl tt)
+    rw n (shown _ _ _ (effect (record { 0 = a.member }) a.round a.amount) {A = Effect} (Err c.in_err-effect.field-0.0) [] s.0 c.if-out-lt-EFFECT.false x.refusal refl tt)

@@ -18,4 +18,4 @@ unfolding committee_refusal
 returns-in_err-weights c = let s = c.in-Some.ensures in
     let x = rw s.1 at c.in_err-weights.ensures in
     let n : refusal_in c.from_residual.result ≡ number_of c.in_err-weights.field-0.0 = search rules in
-    rw n (shown _ _ _ (committee (record { 0 = c.args.round })) {A = List Weight} (Err c.in_err-weights.field-0.0) [] s.0 c.if-out-lt-COMMITTEE.false x.refusal refl tt)
+    rw n (shown _ _ _ (committee c.args.round) {A = List Weight} (Err c.in_err-weights.field-0.0) [] s.0 c.if-out-lt-COMMITTEE.false x.refusal refl tt)

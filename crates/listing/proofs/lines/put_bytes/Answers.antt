@@ -1,7 +1,7 @@
 use Rattle.std.proofs.Common.{◌≡◌, refl, sym, arith, ℕ, ◌+◌, ◌-◌, ◌≤◌, List, length, take, drop, ◌∙◌, append_assoc}
 use Rattle.std.proofs.lemmas.List.{drop-drop}
 use Rattle.std.proofs.lemmas.List.Edits.{sets, sets-eq}
-use borrow.Rule.Slice.PartMut.{put_mid}
+use Rattle.base.proofs.Words.{put_mid}
 use Rattle.listing.proofs.lines.put_bytes.Goals as goal
 
 -- bytes copied over those from a place on are put there one by one

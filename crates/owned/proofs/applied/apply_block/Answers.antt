@@ -6,7 +6,7 @@ use Rattle.owned.proofs.applied.apply_block.Goals as goal
 pub loop-q-init : goal.loop-q-init
 loop-q-init c = let p = c.requires in
     let a = c.args in
-    record { to = p.from; weights = rows-from a.table.now a.block a.start.0 a.weights.now a.low.0 (λ q h i x m. omega (arith, (p.inside i _ (omega arith) (omega (arith, p.from, p.to)) x m).0)) }
+    rw c.low.view_is (record { to = p.from; weights = rows-from a.table.now a.block a.start.0 a.weights.now a.low (λ q h i x m. omega (arith, (p.inside i _ (omega arith) (omega (arith, p.from, p.to)) x m).0)) })
 
 pub apply_row-requires : goal.apply_row-requires
 apply_row-requires c = let p = c.requires in
@@ -23,5 +23,5 @@ pub returns : goal.returns
 returns c = let p = c.requires in
     let a = c.args in
     let x = c.loop-q in
-    let e : x.q ≡ a.top.0 = omega (arith, x.invariant.to) in
-    rows-all a.table.now a.block a.start.0 a.weights.now a.top.0 a.ceiling.0 p.to (λ q h l i y m. omega (arith, (p.inside i _ (omega arith) (omega arith) y m).1)) (rw e at x.invariant.weights)
+    let e : x.q ≡ a.top = omega (arith, x.invariant.to) in
+    rows-all a.table.now a.block a.start.0 a.weights.now a.top a.ceiling p.to (λ q h l i y m. omega (arith, (p.inside i _ (omega arith) (omega arith) y m).1)) (rw e at x.invariant.weights)

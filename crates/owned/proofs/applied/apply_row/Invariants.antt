@@ -12,4 +12,4 @@ pub record PlacesDone (t : List ℕ) (b a r : ℕ) (w₀ w : List Weight) (i : �
   pub total : total_in w ≤ total_in w₀ + i * 17179869180
 
 abbrev pub invariant-loop-i : goal.invariant-loop-i
-invariant-loop-i l = PlacesDone l.table l.block l.start.0 l.round.0 l.initial.weights l.weights l.i
+invariant-loop-i l = PlacesDone l.table l.block l.start.0 l.round l.initial.weights l.weights l.i

@@ -3,4 +3,4 @@ use Rattle.owned.proofs.TestingLaws.{names-held}
 use Rattle.owned.proofs.rooted.is_set_held.Goals as goal
 
 pub returns : goal.returns
-returns c = let a = c.args in names-held a.table.now a.round.0 c.held_set.result a.named (a.round.0 - 1) (omega arith) (omega arith) c.held_set.ensures (omega arith) c.is_subset.ensures
+returns c = let a = c.args in names-held a.table.now a.round c.held_set.result a.named (a.round - 1) (omega arith) (omega arith) (rw c.round.view_is at c.held_set.ensures) (omega arith) c.is_subset.ensures

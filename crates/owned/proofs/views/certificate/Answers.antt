@@ -13,4 +13,4 @@ returns-in_err-held c = let s = c.in-Some.ensures in
     let x = rw (c.view.ensures.0, c.view.ensures.1, s.1) at c.in_err-held.ensures in
     let a = c.args in
     let n : refusal_in c.from_residual.result ≡ number_of c.in_err-held.field-0.0 = search rules in
-    rw n (shown _ _ _ (certificate (record { 0 = a.author }) (record { 0 = a.round })) {A = Held} (Err c.in_err-held.field-0.0) [] s.0 c.if-out-lt-HELD.false x.refusal refl tt)
+    rw n (shown _ _ _ (certificate (record { 0 = a.author }) a.round) {A = Held} (Err c.in_err-held.field-0.0) [] s.0 c.if-out-lt-HELD.false x.refusal refl tt)

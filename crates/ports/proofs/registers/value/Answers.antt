@@ -1,8 +1,5 @@
-use Rattle.ports.proofs.ReadLaws.{data_shown, interrupt_shown, status_shown}
+use Rattle.ports.proofs.ReadLaws.{interrupt_shown, status_shown}
 use Rattle.ports.proofs.registers.value.Goals as goal
-
-pub returns-in-0 : goal.returns-in-0
-returns-in-0 c S blocks h = data_shown S c.args.table.now blocks c.args.port h c.in-0.is c.data.ensures
 
 pub returns-in-2 : goal.returns-in-2
 returns-in-2 c S blocks h = interrupt_shown S c.args.table.now blocks c.args.port h c.in-2.is c.interrupt.ensures

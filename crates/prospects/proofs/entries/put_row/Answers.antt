@@ -10,7 +10,7 @@ loop-i-init c = record { so_far = omega arith; kept = refl; puts = puts_none (ro
 pub put_member-to-requires : goal.put_member-to-requires
 put_member-to-requires c = let a = c.args in
     let x = c.loop-i in
-    (omega arith, omega (arith, row_room (contains a.authors) a.block a.round.0 a.start.0 x.i (omega arith), c.requires.1, x.invariant.kept, x.invariant.puts.past))
+    (omega arith, omega (arith, row_room (contains a.authors) a.block a.round a.start.0 x.i (omega arith), c.requires.1, x.invariant.kept, x.invariant.puts.past))
 
 pub loop-i-preserved : goal.loop-i-preserved
 loop-i-preserved c = let x = c.loop-i in
@@ -18,5 +18,5 @@ loop-i-preserved c = let x = c.loop-i in
     record {
       so_far = omega arith;
       kept = c.put_member-to.auto.list ∙ x.invariant.kept;
-      puts = puts_as (row_more _ _ _ _ x.i) (omega (arith, row-length (contains a.authors) a.block a.round.0 a.start.0 x.i)) (puts_then x.invariant.puts c.put_member-to.ensures);
+      puts = puts_as (row_more _ _ _ _ x.i) (omega (arith, row-length (contains a.authors) a.block a.round a.start.0 x.i)) (puts_then x.invariant.puts c.put_member-to.ensures);
     }

@@ -11,7 +11,7 @@ pub put_row-to-requires : goal.put_row-to-requires
 put_row-to-requires c = let a = c.args in
     let x = c.loop-i in
     let k = c.requires in
-    (k.start, omega (arith, rows-room (in_sets a.sets.now) a.block a.author.0 a.low.0 x.i (a.top.0 - a.low.0) (omega arith), k.room, x.invariant.kept, x.invariant.puts.past))
+    rw c.low.view_is (k.start, omega (arith, rows-room (in_sets a.sets.now) a.anchor.block a.anchor.author.0 a.low x.i (a.top - a.low) (omega arith), k.room, x.invariant.kept, x.invariant.puts.past))
 
 pub loop-i-preserved : goal.loop-i-preserved
 loop-i-preserved c = let x = c.loop-i in
@@ -19,5 +19,5 @@ loop-i-preserved c = let x = c.loop-i in
     record {
       so_far = omega arith;
       kept = c.put_row-to.auto.list ∙ x.invariant.kept;
-      puts = puts_as (rows_more _ _ _ _ x.i) (omega (arith, rows-length (in_sets a.sets.now) a.block a.author.0 a.low.0 x.i)) (puts_then x.invariant.puts c.put_row-to.ensures);
+      puts = puts_as (rows_more _ _ _ _ x.i) (omega (arith, rows-length (in_sets a.sets.now) a.anchor.block a.anchor.author.0 a.low x.i)) (puts_then x.invariant.puts (rw c.low.view_is at c.put_row-to.ensures));
     }

@@ -31,8 +31,8 @@ pub returns-clause-count : goal.returns-clause-count
 returns-clause-count c = let x = c.loop-place in
     let a = c.args.walk.now.chain in
     let h = x.invariant.linked.first.to in
-    let i : x.place ≡ a.settings.now.ceiling.0 * 16 + 16 = omega arith in
-    omega (arith, rw i at x.invariant.count, rows_length a.table.now (c.args.before + 1) (start_at a.settings.now a.table.now c.args.before) a.settings.now.ceiling.0)
+    let i : x.place ≡ a.settings.now.ceiling * 16 + 16 = omega arith in
+    omega (arith, rw i at x.invariant.count, rows_length a.table.now (c.args.before + 1) (start_at a.settings.now a.table.now c.args.before) a.settings.now.ceiling)
 
 pub returns-clause-most : goal.returns-clause-most
 returns-clause-most c = let x = c.loop-place in

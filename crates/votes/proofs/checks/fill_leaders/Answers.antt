@@ -1,7 +1,6 @@
 use Rattle.std.proofs.Common.{◌≡◌, ◌+◌, ◌-◌, arith}
 use Rattle.state.proofs.Walkable.{readable}
-use Rattle.votes.proofs.AnchorLaws.{leaders-filled}
-use Rattle.votes.proofs.CheckLaws.{timely}
+use Rattle.votes.proofs.CheckLaws.{timely, anchor_ready}
 use Rattle.votes.proofs.checks.fill_leaders.Goals as goal
 
 pub new-chain-requires : goal.new-chain-requires
@@ -13,15 +12,8 @@ fill_leaders-requires c = let f = c.requires.formed in
     record { from = omega (arith, w.above, c.last_round-last.ensures); to = omega (arith, f.numbers.round_to, f.settings.ceiling_to) }
 
 pub returns : goal.returns
-returns c = let w = timely _ _ c.requires.formed c.requires.in_time in
-    let r = c.args.state.now.round.0 in
-    let i : r - 1 + 1 ≡ r = omega (arith, w.from) in
-    let x = rw (c.new-chain.ensures.table, c.new-chain.ensures.settings, c.new-chain.ensures.blocks) at c.fill_leaders.ensures in
-    record {
-      formed = c.requires.formed;
-      from = w.from;
-      above = w.above;
-      leaders = leaders-filled _ _ _ _ (rw c.requires.none at x.leaders) c.last_round-last.ensures;
-      committee = rw i at x.committee;
-      margin = x.margin;
-    }
+returns c =
+    let r = c.args.state.now.round in
+    let i : r - 1 + 1 ≡ r = omega (arith, (timely _ _ c.requires.formed c.requires.in_time).from) in
+    let x = rw (c.round.view_is, c.new-chain.ensures.table, c.new-chain.ensures.settings, c.new-chain.ensures.blocks) at c.fill_leaders.ensures in
+    anchor_ready c.requires x.leaders c.last_round-last.ensures (rw i at x.committee) x.margin

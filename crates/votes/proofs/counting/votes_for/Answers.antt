@@ -12,7 +12,7 @@ use Rattle.votes.proofs.counting.votes_for.Goals as goal
 pub sum-requires-clause-fits : goal.sum-requires-clause-fits
 unfolding sum_to
 sum-requires-clause-fits c = let a = c.args in
-    let f = votes_at a.table.now a.round.0 a.author.0 in
+    let f = votes_at a.table.now a.round a.author.0 in
     let w = weight_in a.weights.now in
     let g : ℕ → ℕ = λ i. cond (f i) (w i) 0 in
     let few : sum_by g (range_with_len 0 16) < 2 ^ 64 = omega (arith, weigh_le w f 16 16 (omega arith), c.requires.bounded.total) in
