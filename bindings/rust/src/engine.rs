@@ -19,7 +19,7 @@ use core::fmt;
 ///
 /// An `Engine` owns its words, and nothing else writes them: they are tested once, when it is opened or
 /// restored, and a call then takes the same little time however much is held; a chain, block rows and
-/// a port read at a line's end pass over all that is held. For that it keeps the
+/// a port read at a block's end pass over all that is held. For that it keeps the
 /// committees of the rounds it knows too, [`crate::layout::kept_words`] of them in words of 64 bits.
 /// [`Engine::is_well_formed`] tests again, for a host that fears for its memory. An `Engine<Lent>` tests its
 /// words in each call, as the calls of [`lent`] do, and so may have any: see [`Engine::lent`].
@@ -83,7 +83,7 @@ impl Engine {
     /// [`Refusal::Malformed`] where the state is not well formed, and where it is and no calls leave it so: a
     /// held certificate or the proposal names one that is not held, or one in a block names one in none.
     pub fn try_restore(state: [u32; STATE_WORDS], table: Vec<u32>) -> Result<Engine, Refusal> {
-        Ok(Engine { words: Owned::resume(state, table)? })
+        Owned::resume(state, table).map(Engine::from)
     }
 }
 

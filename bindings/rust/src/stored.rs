@@ -78,6 +78,7 @@ impl Owned {
     /// let words = Owned::load(&bytes, Member::new(2), 7)?;
     /// assert_eq!(words.store(7)?, bytes);
     /// assert_ne!(words.store(8)?, bytes);
+    /// assert_eq!(Engine::from(words).store(7)?, bytes);
     /// # Ok::<(), StoringRefusal>(())
     /// ```
     pub fn store(&self, run: u64) -> Result<Vec<u8>, StoringRefusal> {
@@ -108,6 +109,13 @@ impl Owned {
         let (mut state, mut table) = ([0; STATE_WORDS], vec![0; words as usize]);
         storing::load(bytes, own, run, &mut state, &mut table)?;
         Owned::resume(state, table).map_err(|_| StoringRefusal::UnreadableWords)
+    }
+}
+
+/// The words were tested when they were loaded, and are not tested again.
+impl From<Owned> for Engine {
+    fn from(words: Owned) -> Engine {
+        Engine { words }
     }
 }
 
@@ -173,7 +181,7 @@ impl Engine {
     /// As [`storing::load`] has them, but for [`StoringRefusal::NoRoom`]; and
     /// [`StoringRefusal::UnreadableWords`] also where [`Engine::try_restore`] fails.
     pub fn load(bytes: &[u8], own: Member, run: u64) -> Result<Engine, StoringRefusal> {
-        Ok(Engine { words: Owned::load(bytes, own, run)? })
+        Owned::load(bytes, own, run).map(Engine::from)
     }
 
     /// An engine of the bytes that [`Engine::to_bytes`] gave, as [`Engine::try_restore`] makes one. Any bytes are
