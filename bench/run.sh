@@ -5,7 +5,9 @@
 # OTHER is another archive, that of before a change: it stands in plain's place,
 # and the two take turns in one process. One of before queues, previews, lists of
 # what a commit hangs on, guests' calls, what a bond does to the shares or ports lacks
-# these, which are then left out. Of one archive the tables of owner's calls come last (owner.sh).
+# these, which are then left out. Of one archive the tables of owner's calls come behind them (owner.sh), then
+# those of stores and loads (storing.c), and that of the runner (runner.sh) where RUNNER names one, or where there
+# is crates/runner/out/runner, and the reference is built.
 set -e
 top=$(cd "$(dirname "$0")/.." && pwd)
 archive=${1:-$top/crates/host/out/libhost.a}
@@ -97,4 +99,17 @@ before='before_queues, before_previews, before_critical, before_guests, before_e
 rustc --edition 2021 -C opt-level=3 -C codegen-units=1 --check-cfg "cfg(plain, other, kept, $before)" "$@" \
     "$top/bench/bench.rs" -o "$built/bench"
 TOOLCHAIN=${TOOLCHAIN:-$(rt version 2> /dev/null || echo unknown)} "$built/bench" $pace
-[ "$archive" = plain ] || [ -n "$other" ] || { echo; sh "$top/bench/owner.sh" "$archive" $pace; }
+[ "$archive" != plain ] && [ -z "$other" ] || exit 0
+echo
+sh "$top/bench/owner.sh" "$archive" $pace
+case $pace in quick) turns=10 seeds=20 ;; *) turns=100 seeds=300 ;; esac
+printf '\n## Stores and loads\n\n'
+"${CC:-gcc}" -O2 -I"$top/include" "$top/bench/storing.c" "$archive" -o "$built/storing"
+"$built/storing" $turns
+runner=${RUNNER:-$top/crates/runner/out/runner}
+if [ -x "$runner" ] && [ -x "$top/reference/bin/runner_ref" ]; then
+    printf '\n## The runner\n\n'
+    sh "$top/bench/runner.sh" "$runner" $seeds
+else
+    echo "run.sh: without the runner: there is no $runner, or no reference/bin/runner_ref (sh reference/build.sh)" >&2
+fi

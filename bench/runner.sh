@@ -26,8 +26,7 @@ for turn in 1 2 3 4 5 6 7 8 9; do
         echo $((end - start)) >> "$out/$name.times"
     done
 done
-echo "| program | best of 9, s | records per second |"
-echo "|---|---:|---:|"
+printf '\n| program | best of 9, s | records per second |\n|---|---:|---:|\n'
 for program in "$runner" bin/runner_ref; do
     name=$(basename "$program")
     best=$(sort -n "$out/$name.times" | head -1)

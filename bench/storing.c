@@ -1,5 +1,6 @@
-/* storing [TURNS]: what a store and a load cost at ceilings 64, 256 and 1,024, best of TURNS, 30 if not given, in microseconds of
- * processor time. Beside them CRC-32C over the same bytes, by a table of 256 words and bit by bit, which tells less.
+/* storing [TURNS]: what a store and a load cost at ceilings 64, 256 and 1,024, best of TURNS, 30 if not given, as a table in Markdown, in
+ * microseconds of processor time. Beside them CRC-32C over the same bytes, by a table of 256 words and bit by bit, which tells less.
+ * bench/run.sh builds and runs it.
  *
  *     gcc -O2 -Iinclude bench/storing.c crates/host/out/libhost.a -o storing && ./storing */
 #define _POSIX_C_SOURCE 200809L
@@ -53,6 +54,7 @@ int main(int arguments, char **argument) {
         entries[i] = i;
         for (int bit = 0; bit < 8; bit++) entries[i] = entries[i] >> 1 ^ (0x82f63b78u & -(entries[i] & 1));
     }
+    puts("| ceiling | bytes | store us | load us | CRC-32C by a table us | CRC-32C bit by bit us |\n|---:|---:|---:|---:|---:|---:|");
     for (uint32_t ceiling = 64; ceiling <= MOST; ceiling *= 4) {
         uint32_t sheet[FORGELILAC_SHEET_WORDS];
         count = FORGELILAC_STORED_BYTES(ceiling);
@@ -63,8 +65,7 @@ int main(int arguments, char **argument) {
         for (size_t i = 0; i < words; i++) table[i] = (uint32_t)i * 2654435761u;
         double stores = best(store, turns), loads = best(load, turns);
         if (answer != 0 || memcmp(table, again, words * sizeof(uint32_t)) != 0) return 1;
-        printf("ceiling %u, %zu bytes: store %.0f us, load %.0f us, CRC-32C by a table %.0f us, bit by bit %.0f us\n", (unsigned)ceiling, count, stores,
-               loads, best(by_table, turns), best(by_bits, turns));
+        printf("| %u | %zu | %.0f | %.0f | %.0f | %.0f |\n", (unsigned)ceiling, count, stores, loads, best(by_table, turns), best(by_bits, turns));
     }
     return 0;
 }

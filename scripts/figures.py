@@ -9,6 +9,7 @@ What scripts/pages.py runs, docs/TRUST.md and README.md's lines of specs/ (tools
 """
 import pathlib
 import re
+import statistics
 import sys
 
 TOP = pathlib.Path(__file__).resolve().parent.parent
@@ -131,6 +132,81 @@ def quarters(call):
     return f"{min(numbers):,} to {max(numbers):,}"
 
 
+def least_to_most(numbers, digits):
+    """One number, or two, of so many digits behind the point."""
+    least, most = f"{min(numbers):,.{digits}f}", f"{max(numbers):,.{digits}f}"
+    return least if least == most else f"{least} to {most}"
+
+
+def ratios(calls, state, over=5, digits=2):
+    """How many times plain Rust (5) or the floor (6) these calls take, over all ceilings."""
+    return least_to_most([int(cells[4]) / int(cells[over]) for ceiling in (64, 256, 1024)
+                          for call in calls.split("; ") for cells in [by_call(call, state, ceiling)]], digits)
+
+
+def chosen(section, column, digits, **first):
+    """The numbers of a column in the rows of a section that have these words at these places (`c1` is the second)."""
+    places = [(int(place[1:]), said) for place, said in first.items()]
+    return least_to_most([float(cells[column]) for cells in FIGURES[section][2:]
+                          if all(cells[at] == said for at, said in places)], digits)
+
+
+def on_empty():
+    """Microseconds of all calls but open on an empty state, over all ceilings."""
+    return span([int(cells[4]) / 1000 for ceiling in (64, 256, 1024) for cells in FIGURES[f"Ceiling {ceiling}"][2:]
+                 if cells[1] == "empty" and cells[0] != "open"])
+
+
+def more_on_empty(call, than):
+    """Microseconds that one call takes more than another on an empty state of ceiling 64."""
+    return f"{(int(by_call(call, 'empty', 64)[4]) - int(by_call(than, 'empty', 64)[4])) / 1000:.1f}"
+
+
+def ports_in_use(of=1):
+    """Microseconds that eight ports in use cost, or one of them (8), where eight rounds are held: the median of all calls."""
+    numbers = [float(cells[5]) for cells in FIGURES["Calls with ports in use"][2:] if cells[2] == "8 rounds"]
+    return f"{statistics.median(numbers) / 1000 / of:.2f}"
+
+
+def batch_to_plain(ceiling, state="full"):
+    """How many times plain Rust one batch takes."""
+    return f"{batch(ceiling, 'engine', 4, state) / batch(ceiling, 'plain', 4, state):.1f}"
+
+
+def public():
+    """Nanoseconds of the public calls beside owner's calls on a full state of ceiling 1,024, to a thousand."""
+    numbers = [round(int(cells[5]), -3) for (_, state), cells in OWNERS.items()
+               if state == "full" and cells[5].isdigit() and "many blocks" not in cells[0] and "block rows" not in cells[0]]
+    return f"{min(numbers):,} to {max(numbers):,}"
+
+
+def resume(state):
+    """Microseconds of a resume at a ceiling of 1,024."""
+    return f"{float(re.findall(rf'^Resume, {state}: ([0-9.]+) us', text('bench/FIGURES.md'), re.MULTILINE)[-1]):.0f}"
+
+
+def stored(by, ceiling):
+    """Milliseconds of a store (2), a load (3), a CRC-32C by a table (4) and bit by bit (5)."""
+    return f"{int(row('Stores and loads', (0, str(ceiling)))[by]) / 1000:.{2 if ceiling == 64 else 1}f}"
+
+
+def store_and_load(ceiling):
+    """Milliseconds of either, one number where they are alike."""
+    store, load = stored(2, ceiling), stored(3, ceiling)
+    return store if store == load else f"{min(store, load, key=float)} to {max(store, load, key=float)}"
+
+
+def digested():
+    """Megabytes a second of a store at the highest ceiling."""
+    cells = row("Stores and loads", (0, "1024"))
+    return f"{int(cells[1]) / int(cells[2]):.0f}"
+
+
+def records(program):
+    """Records a second of the engine's runner or of the reference."""
+    return f"{int(row('The runner', (0, program))[2]):,}"
+
+
 # ---- plant/FIGURES.md
 
 
@@ -189,12 +265,17 @@ PUT = {"us": us, "times_plain": times_plain, "batch": batch, "batch_ms": batch_m
        "growth": growth, "round_of_sixteen": round_of_sixteen, "exported": exported, "table_words": table_words,
        "by_call": by_call, "WORDS": WORDS, "rounded": rounded, "played": played, "all_played": all_played,
        "processor": processor, "to_a_fork": to_a_fork, "archive": archive, "owned": owned,
-       "quarters": quarters}
+       "quarters": quarters, "stored": stored, "store_and_load": store_and_load, "digested": digested,
+       "records": records, "ratios": ratios, "chosen": chosen, "on_empty": on_empty, "more_on_empty": more_on_empty,
+       "ports_in_use": ports_in_use, "batch_to_plain": batch_to_plain, "public": public, "resume": resume}
 
 READS = "'read certificate; read block; enqueue'"
 STANDING = "'advance; read committee; read share'"
 SIGNING = "'propose; endorse; certify; accept; draw of 4'"
 COMMIT = "'commit, one block; preview, one block'"
+WALKING = "'propose; endorse; certify; accept; advance; commit, one block; preview, one block; critical; read committee; read share'"
+COPIES = "'Preview, commit, and commit on a copy'"
+HANGS = "'What a commit hangs on, and a commit\\'s checks'"
 
 
 def table_row(name, calls):
@@ -260,6 +341,29 @@ PAGES = [
     ("docs/PERFORMANCE.md", "This is added up from the table"),
     ("docs/PERFORMANCE.md", "comes to {round_of_sixteen(64)} ms at a full ceiling of 64 and to {round_of_sixteen(1024)} ms "
      "at 1,024."),
+    ("docs/PERFORMANCE.md", f"It takes {{chosen({COPIES}, 5, 0, c0='1024', c1='full', c2='499', c4='engine')}} us where a commit "
+     f"of 499 blocks at a full ceiling of 1,024 takes {{chosen({COPIES}, 6, 0, c0='1024', c1='full', c2='499', c4='engine')}}. "
+     f"Copying the table, committing there and listing take {{chosen({COPIES}, 9, 1, c1='full', c4='engine')}} times a preview."),
+    ("docs/PERFORMANCE.md", f"a commit's checks cost: {{chosen({HANGS}, 7, 2, c1='full', c3='engine')}} times a commit that is refused "
+     f"for one vote too few, on full states of every ceiling, and {{chosen({HANGS}, 7, 1, c1='full, many blocks', c3='engine')}} "
+     "times where many blocks wait."),
+    ("docs/PERFORMANCE.md", "{more_on_empty('bond effect', 'read committee')} us more than read committee on an empty state, and on a "
+     "full one what a share read takes ({us('bond effect', 64)} us at a ceiling of 64, {us('bond effect', 256)} at 256, "
+     "{us('bond effect', 1024)} at 1,024)"),
+    ("docs/PERFORMANCE.md", "some {ports_in_use(8)} us a port, {ports_in_use()} us for eight."),
+    ("docs/PERFORMANCE.md", "On an empty state calls take {on_empty()} us, by the ceiling"),
+    ("docs/PERFORMANCE.md", "beside which the public calls took {public()}."),
+    ("docs/PERFORMANCE.md", "A resume takes {resume('empty')} us on an empty state of that ceiling, {resume('half')} half full and "
+     "{resume('full')} full."),
+    ("docs/PERFORMANCE.md", f"- Calls that work out a committee are {{ratios({WALKING}, 'full')}} times plain on full states, and "
+     f"{{ratios({WALKING}, 'half')}} on half full ones."),
+    ("docs/PERFORMANCE.md", "- A batch is {batch_to_plain(64, 'half')} times plain on half a state of ceiling 64, and "
+     "{batch_to_plain(64)} on a full one; at 1,024 it is {batch_to_plain(1024, 'half')} and {batch_to_plain(1024)} times."),
+    ("docs/PERFORMANCE.md", "The scan alone is {ratios('read block', 'full', 6, 1)} times the floor"),
+    ("docs/PERFORMANCE.md", "take {store_and_load(64)} ms at ceiling 64, {store_and_load(256)} at 256 and "
+     "{store_and_load(1024)} at 1,024, each: nearly all of it is the SHA-256 over the bytes, {digested()} MB a second. "
+     "A CRC-32C over the same bytes would take {stored(4, 1024)} ms at 1,024 by a table and {stored(5, 1024)} bit by bit"),
+    ("docs/PERFORMANCE.md", "{records('runner')} records a second, against {records('runner_ref')} of the reference in plain Rust"),
     ("README.md", "the library for hosts, {exported()} functions, {WORDS[exported(True)]} of them guests' forms"),
     ("docs/PROMISES.md", "the {exported()} functions of `host` that hosts link, {WORDS[exported(True)]} of them guests' forms"),
     ("docs/TABLES.md", "| 3 | {table_words(3):,} | {4 * table_words(3):,} |"),
