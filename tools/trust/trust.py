@@ -58,7 +58,7 @@ A proof says that code does what a definition says. Whether the definition says 
 
 ## In an hour
 
-To see that all of it is proved, start `bash .ci/run` before you read: it takes about as long, somewhat over an hour from nothing (README.md, "Commands").
+To see that all of it is proved, start `bash .ci/run` before you read: it takes about as long, somewhat over an hour from nothing (README.md, "Commands"), and its last line is 'N passed, M failed'. It needs the kit; to read, python3 is enough.
 
 Definitions are written in Rattle's logic:
 
@@ -70,6 +70,9 @@ Definitions are written in Rattle's logic:
 | `a ≡ b`, `a ≢ b`, `λ x. e`, `f x y` | equal; not equal; the function that gives e for x; f of x and y |
 | `[]`, `x ∷ l`, `l ++ m` | the empty list; x, then the list l; l, then m |
 | `e.f`, `record { f = a }`, `e.0`, `module _ (X : A) where` | field f of e; a record; its field without a name; what is indented below is said of every X of A |
+| `ℕ`, `zero`, `suc n`, `a - b`, `a / b` | the whole numbers from 0 on; 0; n + 1; a less b, 0 where b is larger; the whole part |
+| `a == b`, `nat_lt a b`, `nat_le a b`, `s && t`, `not s` | each gives `true` or `false`: equal; less; at most; both; not |
+| `use F.{a, b}`, `open X use {f}` | names of another file, fields of X, which stand alone from there on; `◌` in such a name is where an argument stands |
 
 What ends in `: Type 0` is such a statement, or a set of values: a `record` is all of its fields, a `data` one of its cases. An argument in braces, as `{B}`, follows from the others. `pub`, `abbrev` and `unfoldable` change nothing of what is said.
 
@@ -79,11 +82,11 @@ In this order:
 |---:|---|---|
 | 5 | docs/RULES.md, "What is claimed of runs" | the claim in words |
 | 10 | crates/nonforking/specs/Statement.antt | the claim as definitions, clause by clause. At `sheet` and `equal`: rights are part of a sheet and are not compared, since `filled` leaves them out |
-| 10 | docs/PROMISES.md, "What is claimed of runs" | how the two belong together, sentence by sentence |
+| 10 | docs/PROMISES.md, "What is claimed of runs", and on top of that page how to read a row | how the two belong together, sentence by sentence |
 | 5 | docs/AGREEMENT.md, "Reading the claim" | which claim stands where, of calls, of requests and of words |
 | 10 | this page from here down to "How to read the list", but what it says of the runner | what is proved, what is assumed, and what is neither |
-| {near_minutes} | what Statement.antt names in other files, {near}: `python3 tools/trust/trust.py --for nonforking::chains_never_fork --near --text` | what the words of the claim mean, one step down |
-| 10 | crates/library/specs/Hosts.antt, and `chains_never_fork_over_words` in crates/library/src/lib.rt | the claim over the words of the library that you link |
+| {near_minutes} | what Statement.antt names in other files, {near}: `python3 tools/trust/trust.py --for nonforking::chains_never_fork --near --text`, which shows those of Statement.antt again behind them | what the words of the claim mean, one step down |
+| 10 | crates/library/specs/Hosts.antt, and `chains_never_fork_over_words` in crates/library/src/lib.rt | the claim over the words of the library that you link. The field `accepted` of `members` is a proof, and need not be read |
 
 After the hour: what this page says of the runner, the rest of the definitions of `chains_never_fork`, those of a call that you link, and the rest of the list. Why it is so, which need not be believed: docs/AGREEMENT.md, "Why chains never part", in 15 minutes. The theory behind it is `agreement::never_fork`, of whose {theory} definitions the claim over calls uses {shared}.
 
@@ -120,7 +123,7 @@ Between a proved function and your program stands code that no contract speaks o
 
 - **The header's own functions**, which your compiler builds: the {inline_count} of include/forgelilac.h that are `static inline`, {inline_lines} lines: {inline}. They make sheets and bodies and take answers apart; they decide nothing of the rules. `forgelilac_chain` and `forgelilac_guest_chain` are `forgelilac_block_rows`, which is proved, with three words kept of each row; `forgelilac_leader` and `forgelilac_is_well_formed` are one call each; `forgelilac_may`, `forgelilac_waiting` and `forgelilac_own_proposal` read words.
 - **Its declarations, macros and the numbers in them**: lengths, places of words, refusals. `scripts/signatures.py` compares each function's parameters, and the record of a batch, with the code's.
-- **The Rust package**, bindings/rust/src, {package_lines} lines without tests: what turns values into words and words into bytes and back, what holds state and table. Its chain is the rows of all blocks by `forgelilac_block_rows`, and its `leader` is `forgelilac_leader_of`. It calls the library by `unsafe` in one file, `lent`.
+- **The Rust package**, bindings/rust/src, {package_lines} lines without tests: what turns values into words and words into bytes and back, what holds state and table. Its chain is the rows of all blocks by `forgelilac_block_rows`, and its `leader` is `forgelilac_leader_of`. It calls the library by `unsafe` in {unsafe}.
 - **What builds and finds the archive**: Makefile, forgelilac.pc.in, bindings/rust/build.rs, and the linker.
 - **Your host**: signatures, storage, and which calls it makes (docs/HOSTS.md, "What the promise asks of you"). And how it lends words: of stretches that overlap, or that something else writes while a call runs, contracts say nothing (docs/HOSTS.md, "Threads and stack").
 
@@ -368,9 +371,9 @@ def listed(roots):
 def filled(head, listing):
     """The head of the page with what is counted in it."""
     inline, lines = header_functions()
-    package = sum(len(path.read_text(encoding="utf-8").splitlines()) for path in Path(PACKAGE).glob("*.rs") if path.name != "tests.rs")
+    package, unsafe = rust_package()
     counted = {"specs": specs_held(listing), "kit": KIT, "pace": str(PACE), "alone": alone(listing), "inline": ", ".join(f"`{name}`" for name in inline),
-               "inline_count": str(len(inline)), "inline_lines": str(lines), "package_lines": f"{package:,}", **in_an_hour(listing)}
+               "inline_count": str(len(inline)), "inline_lines": str(lines), "package_lines": f"{package:,}", "unsafe": unsafe, **in_an_hour(listing)}
     for name, text in counted.items():
         head = head.replace("{" + name + "}", text)
     return head
@@ -384,6 +387,13 @@ def in_an_hour(listing):
     used = {id(item) for item in listing.walked(claim)}
     return {"near": f"{definitions} definitions and {types} types of the code, {lines} lines", "near_minutes": str(minutes),
             "theory": str(sum(len(item.names) for item in theory)), "shared": str(sum(len(item.names) for item in theory if id(item) in used))}
+
+
+def rust_package():
+    """How many lines the Rust package has without tests, and which of its files have unsafe code."""
+    source = {path: path.read_text(encoding="utf-8") for path in sorted(Path(PACKAGE).rglob("*.rs")) if not {"tests.rs", "tests"} & set(path.parts)}
+    names = [f"`{path.stem}`" for path, text in source.items() if re.search(r"\bunsafe (?:\{|extern)", text)]
+    return sum(len(text.splitlines()) for text in source.values()), f"{len(names)} files, {', '.join(names[:-1])} and {names[-1]}"
 
 
 def header_functions():
