@@ -91,7 +91,7 @@ for kind in lossy partitions crashes equivocation weights guests all beyond; do
     done
 done
 echo "calls of $runs runs: made again by proved code, the same answers and the same words"
-# One call less, one byte less, another mark: nothing of that is told.
+# A word less, a byte less, another mark: nothing of these is told.
 head -c -4 "$out/calls/calls.list" > "$out/short"
 head -c -1 "$out/calls/calls.list" > "$out/torn"
 { printf X; tail -c +2 "$out/calls/calls.list"; } > "$out/other"
