@@ -139,10 +139,8 @@ uint32_t forgelilac_format_3(void);
 
 /* Bytes of stack that serve every call and every function below but owner's calls, which have
  * FORGELILAC_OWNED_STACK_BYTES, on x86-64; examples/stack.c measures what the calls use. Preview
- * uses about 98 KB, batch and draw about 96 KB, propose, endorse, certify, accept, advance, commit,
- * critical, committee, share and bond effect 94 to 95 KB, block rows and forgelilac_chain 89 to 92 KB,
- * a port read about 77 KB, the others less than 1 KB; a guest's form little more than the host's
- * call. */
+ * uses about 94 KB, every other call that may walk over the blocks 89 to 92 KB, but a port read about
+ * 77 KB, the others less than 1 KB; a guest's form little more than the host's call. */
 #define FORGELILAC_STACK_BYTES 98304
 
 /* ---- words of a state */
