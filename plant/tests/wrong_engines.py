@@ -47,6 +47,35 @@ pub unsafe extern "C" fn forgelilac_guest_block_rows(_: u32, _: *const u32, _: u
         _: u32, _: *mut u32, _: usize) -> u64 { 29 << 32 }
 """
 
+# What asks for no state.
+REST = """
+#[no_mangle]
+pub extern "C" fn forgelilac_version() -> u32 { VERSION }
+#[no_mangle]
+pub extern "C" fn forgelilac_format() -> u32 { 3 }
+#[no_mangle]
+pub extern "C" fn forgelilac_format_3() -> u32 { 3 }
+#[no_mangle]
+pub unsafe extern "C" fn forgelilac_leader_of(round: u32, weights: *const u32, weights_words: usize) -> u32 {
+    let members: Vec<u32> = (0..16).zip(f(weights, weights_words)).filter(|(_, weight)| **weight > 0).map(|(member, _)| member).collect();
+    if round == 0 || round % 2 == 1 || members.is_empty() { return 16 }
+    members[(round as usize / 2) % members.len()]
+}
+"""
+
+
+def declared(text, kind):
+    """Name, parameters and answer of each function that the package links."""
+    for name, arguments, answer in re.findall(r"pub fn forgelilac_%s(\w+)\(\s*(.*?)\)\s*->\s*(u32|u64);" % kind, text, re.S):
+        yield name, " ".join(arguments.split()).rstrip(",").replace("CertificateRecord", "[u32; 17]"), answer
+
+
+def version():
+    """The number of the version that the package is made for."""
+    said = re.search(r'ENGINE_VERSION: &str = "(\d+)\.(\d+)\.(\d+)"', (TOP / "bindings/rust/src/version.rs").read_text())
+    major, minor, patch = (int(part) for part in said.groups())
+    return 1000000 * major + 1000 * minor + patch
+
 
 def exported(count):
     """The functions that the package links, over those of so many plain.rs."""
@@ -69,10 +98,10 @@ def exported(count):
             ("certificate", "state: &[u32], table: &[u32], author: u32, round: u32, out: &mut [u32]",
              "state, table, author, round, out", "u32")]:
         out.append("fn %s(%s) -> %s { %s }" % (name, parameters, answer, chosen(name, values)))
-    for name, arguments, answer in re.findall(r"pub fn forgelilac_(\w+)\(\s*(.*?)\)\s*->\s*(u32|u64);", lent, re.S):
+    here = set()
+    for name, arguments, answer in declared(lent, ""):
         if name not in there:
             continue
-        arguments = " ".join(arguments.split()).rstrip(",").replace("CertificateRecord", "[u32; 17]")
         pairs = [argument.split(": ") for argument in arguments.split(", ")]
         passed, at = [], 0
         while at < len(pairs):
@@ -85,7 +114,22 @@ def exported(count):
             at += 1
         out.append('#[no_mangle] pub unsafe extern "C" fn forgelilac_%s(%s) -> %s { %s }'
                    % (name, arguments, answer, chosen(name, ", ".join(passed))))
-    return "\n".join(out) + ROWS
+        here.add(name)
+    here |= set(re.findall(r"fn forgelilac_(\w+)\(", ROWS + REST))
+    # What the plant never asks for, but the package names.
+    for name, arguments, answer in declared(lent, ""):
+        if name not in here:
+            out.append('#[no_mangle] pub unsafe extern "C" fn forgelilac_%s(%s) -> %s { std::process::abort() }'
+                       % (name, arguments, answer))
+    # An owner's call is the public one: these rules look at everything each time.
+    for name, arguments, answer in declared((TOP / "bindings/rust/src/owner.rs").read_text(), "owned_"):
+        passed = [word for word in (argument.split(": ")[0] for argument in arguments.split(", "))
+                  if word not in ("kept", "kept_words")]
+        body = "forgelilac_%s(%s)" % (name, ", ".join(passed)) if name != "resume" else \
+            "u32::from(block(f(state, state_words), f(table, table_words), 0) >> 32 == 1)"
+        out.append('#[no_mangle] pub unsafe extern "C" fn forgelilac_owned_%s(%s) -> %s { %s }'
+                   % (name, arguments, answer, body))
+    return "\n".join(out) + ROWS + REST.replace("VERSION", str(version()))
 
 
 # (what is wrong, text that stands once in plain.rs, what takes its place)
