@@ -37,7 +37,7 @@ pub entries_more : (w : List ℕ) (l : List Entry) (e : Entry) (r s : List ℕ) 
 entries_more w l e r s h k = rw (h, k, entries_last l e) (sym (append_assoc (entries_words l) (entry_words e) s))
 
 -- what holds of each
-pub all_more : (P : Entry → Type 0) (l : List Entry) (e : Entry) → ((k : ℕ) (d : Entry) → k < length l → P (get_or l k d)) → P e → (k : ℕ) (d : Entry) → k < length (l ++ e ∷ []) → P (get_or (l ++ e ∷ []) k d)
+pub all_more : {A : Type 0} (P : A → Type 0) (l : List A) (e : A) → ((k : ℕ) (d : A) → k < length l → P (get_or l k d)) → P e → (k : ℕ) (d : A) → k < length (l ++ e ∷ []) → P (get_or (l ++ e ∷ []) k d)
 all_more P l e h w k d b = go (cases_lt k (length l))
   where
     go : (k < length l) ⊎ (length l ≤ k) → P (get_or (l ++ e ∷ []) k d)

@@ -13,7 +13,7 @@ use Rattle.replaying.specs.declared.calls.Entry.{Entry}
 use Rattle.replaying.specs.declared.calls.Keeper.{Keeper}
 use Rattle.replaying.specs.declared.heads.Head.{Head}
 use Rattle.replaying.specs.Told.{told}
-use Rattle.replaying.specs.Lists.{head_words, entries_words}
+use Rattle.replaying.specs.Lists.{CallWhole, head_words, entries_words}
 use Rattle.replaying.specs.Opened.{opened, Opens, OpenedAs}
 use Rattle.replaying.specs.Runs.{Stand, after_run, answers_of, newest, NeverFork, SameCommittees}
 use Rattle.replaying.specs.Replays.{Replays, Told}
@@ -35,16 +35,19 @@ all_typed [] m h t = t
 all_typed (e ∷ l) m h t = all_typed l (record { who = e.who; call = told e.call } ∷ m) (λ k d b. h (suc k) d (omega (arith, b))) (h 0 e (omega arith), t)
 
 module _ (w rest : List ℕ) (h : Head) (l : List Entry) (before after : List Keeper) (answers : List ℕ) where
-  pub replays : w ≡ head_words h ++ rest → rest ≡ entries_words l → length before ≡ h.members → length after ≡ length before → ((k : ℕ) → k < h.members → Opens h k) → Stand before (opened h)
+  pub replays : w ≡ head_words h ++ rest → length h.sheet ≡ 40 → rest ≡ entries_words l → ((k : ℕ) (d : Entry) → k < length l → (get_or l k d).who < h.members) → ((k : ℕ) (d : Entry) → k < length l → CallWhole (get_or l k d).call) → length before ≡ h.members → length after ≡ length before → ((k : ℕ) → k < h.members → Opens h k) → Stand before (opened h)
       → ((k : ℕ) (d : Entry) → k < length l → Typed (told (get_or l k d).call))
       → ((at : ℕ → library.Words) → Stand before at → Stand after (after_run at l))
       → ((at : ℕ → library.Words) → Stand before at → answers ≡ answers_of at l)
       → ((X : Hosts) → Stand before (words_after X []) → AllTyped (newest l []) → Run (members X) (calls_in X (newest l [])) → NeverFork X after)
       → ((X : Hosts) → Stand before (words_after X []) → AllTyped (newest l []) → Run (members X) (calls_in X (newest l [])) → SameCommittees X after)
       → Replays w h l after answers
-  replays e f n m o s y r a c g =
+  replays e z f b u n m o s y r a c g =
       record {
         listed = rw (e, f) refl;
+        sheet = z;
+        callers = b;
+        whole = u;
         hosts = m ∙ n;
         accepted = o;
         left = r (opened h) s;

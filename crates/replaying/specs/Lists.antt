@@ -1,5 +1,5 @@
 -- A list of a run's calls as words: a head, and then each call of each member in the order in which they are made (docs/PLANT.md, "The calls of a run, made again").
-use Rattle.std.specs.Prelude.{List, [], ◌∷◌, ◌++◌, ℕ, length}
+use Rattle.std.specs.Prelude.{◌≡◌, List, [], ◌∷◌, ◌++◌, ℕ, length, All}
 use Rattle.batching.specs.declared.rows.CertificateRecord.{CertificateRecord}
 use Rattle.batching.specs.Rows.{record_words}
 use Rattle.replaying.specs.declared.calls.HostCall.{HostCall}
@@ -59,6 +59,33 @@ entry_words e = e.who ∷ call_words e.call
 unfoldable pub entries_words : List Entry → List ℕ
 entries_words [] = []
 entries_words (e ∷ l) = entry_words e ++ entries_words l
+
+-- ---- how long each array is: a value of these types has no other length, and so words are of one list
+
+abbrev pub RecordWhole : CertificateRecord → Type 0
+RecordWhole e = length e.body ≡ 14
+
+abbrev pub HostWhole : HostCall → Type 0
+HostWhole (host.Propose body) = length body ≡ 14
+HostWhole (host.Enqueue g x) = length x ≡ 3
+HostWhole (host.Endorse proposal) = length proposal ≡ 16
+HostWhole (host.Accept certificate) = length certificate ≡ 17
+HostWhole (host.Batch row) = All RecordWhole row.items
+HostWhole c = Unit {0}
+
+abbrev pub GuestWhole : GuestCall → Type 0
+GuestWhole (guest.Propose body) = length body ≡ 14
+GuestWhole (guest.Enqueue x) = length x ≡ 3
+GuestWhole (guest.Endorse proposal) = length proposal ≡ 16
+GuestWhole (guest.Accept certificate) = length certificate ≡ 17
+GuestWhole (guest.Batch row) = All RecordWhole row.items
+GuestWhole c = Unit {0}
+
+abbrev pub CallWhole : Call → Type 0
+CallWhole (Host x) = HostWhole x
+CallWhole (Guest c x) = GuestWhole x
+
+-- ---- the whole list
 
 -- the head: a mark, how many members there are, the rights that all open with, and the words of their sheet
 abbrev pub head_words : Head → List ℕ

@@ -1,5 +1,5 @@
 -- What making a list again comes to, and the bytes that tell it.
-use Rattle.std.specs.Prelude.{◌≡◌, ◌<◌, List, [], ◌++◌, ℕ, length}
+use Rattle.std.specs.Prelude.{◌≡◌, ◌<◌, List, [], ◌++◌, ℕ, length, All}
 use Rattle.std.specs.Int.{w32, w64, to_le_bytes}
 use Rattle.std.specs.List.{flat_map}
 use Rattle.nonforking.specs.Statement.{Run}
@@ -7,13 +7,16 @@ use Rattle.library.specs.Hosts.{Hosts, members, calls_in}
 use Rattle.replaying.specs.declared.calls.Entry.{Entry}
 use Rattle.replaying.specs.declared.calls.Keeper.{Keeper}
 use Rattle.replaying.specs.declared.heads.Head.{Head}
-use Rattle.replaying.specs.Lists.{list_words}
+use Rattle.replaying.specs.Lists.{CallWhole, list_words}
 use Rattle.replaying.specs.Runs.{Stand, after_run, answers_of, newest, NeverFork, SameCommittees}
 use Rattle.replaying.specs.Opened.{opened, Opens, OpenedAs}
 
--- the words w are those of a head and of a list of calls; members open, their words and the answers are what the list of the library's calls leaves and answers; and chains never fork over it, where it is a run
+-- the words w are those of the head h and of the list of calls l, each of one of the head's members and with arrays of their lengths, so of no other; members open, their words and the answers are what the list of the library's calls leaves and answers; and chains never fork over it, where it is a run
 pub record Replays (w : List ℕ) (h : Head) (l : List Entry) (keepers : List Keeper) (answers : List ℕ) : Type 0 where
   pub listed : w ≡ list_words h l
+  pub sheet : length h.sheet ≡ 40
+  pub callers : All (λ e. e.who < h.members) l
+  pub whole : All (λ e. CallWhole e.call) l
   pub hosts : length keepers ≡ h.members
   pub accepted : (k : ℕ) → k < h.members → Opens h k
   pub left : Stand keepers (after_run (opened h) l)

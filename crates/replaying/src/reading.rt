@@ -6,7 +6,7 @@ ghost use Rattle.std.specs.Prelude.{◌≡◌, ◌∷◌, ◌++◌, ◌<◌, len
 ghost use Rattle.batching.specs.Rows.{record_words};
 ghost use Rattle.library.specs.Calls.{Typed};
 ghost use Rattle.replaying.specs.Told.{told, told_host, told_guest};
-ghost use Rattle.replaying.specs.Lists.{row_words, rows_words, host_words, guest_words, entry_words, entries_words, head_words};
+ghost use Rattle.replaying.specs.Lists.{row_words, rows_words, host_words, guest_words, entry_words, entries_words, head_words, RecordWhole, HostWhole, GuestWhole, CallWhole};
 
 use crate::calls::{Call, Entry, GuestCall, HostCall};
 use crate::failure::{Failure, push};
@@ -37,7 +37,8 @@ fn stretch<const N: usize>(words: &[u32]) -> Result<([u32; N], &[u32]), Failure>
 // A certificate as a row has it.
 #[tactic(auto, unfolding(batching::specs::Rows::record_words))]
 fn record(words: &[u32]) -> Result<(CertificateRecord, &[u32]), Failure>
-    ensures { IfOk result (λ p. words.now ≡ record_words p.0 ++ p.1.now) }
+    ensures words { IfOk result (λ p. words.now ≡ record_words p.0 ++ p.1.now) }
+    ensures whole { IfOk result (λ p. RecordWhole p.0) }
 {
     let (author, rest) = number(words)?;
     let (round, rest) = number(rest)?;
@@ -59,12 +60,13 @@ fn records(
     count: u32,
     words: &[u32],
 ) -> Result<(Vec<CertificateRecord>, &[u32]), Failure>
-    ensures { IfOk result (λ p.
+    ensures words { IfOk result (λ p.
         (length p.0.items ≡ count) × (words.now ≡ rows_words p.0.items ++ p.1.now)) }
+    ensures whole { IfOk result (λ p. All RecordWhole p.0.items) }
 {
     let mut row = Vec::new(alloc);
     let mut rest = words;
-    'rows: while row.len() < count as usize {
+    while row.len() < count as usize {
         let (one, behind) = record(rest)?;
         push(&mut row, one)?;
         rest = behind;
@@ -74,7 +76,8 @@ fn records(
 
 // A row: how many certificates it has, and these.
 fn row(alloc: Global, words: &[u32]) -> Result<(Vec<CertificateRecord>, &[u32]), Failure>
-    ensures { IfOk result (λ p. words.now ≡ row_words p.0.items ++ p.1.now) }
+    ensures words { IfOk result (λ p. words.now ≡ row_words p.0.items ++ p.1.now) }
+    ensures whole { IfOk result (λ p. All RecordWhole p.0.items) }
 {
     let (count, rest) = number(words)?;
     records(alloc, count, rest)
@@ -84,6 +87,7 @@ fn row(alloc: Global, words: &[u32]) -> Result<(Vec<CertificateRecord>, &[u32]),
 fn host_call(alloc: Global, code: u32, words: &[u32]) -> Result<(HostCall, &[u32]), Failure>
     ensures words { IfOk result (λ p. code ∷ words.now ≡ host_words p.0 ++ p.1.now) }
     ensures typed { IfOk result (λ p. Typed (told_host p.0)) }
+    ensures whole { IfOk result (λ p. HostWhole p.0) }
 {
     match code {
         0 => {
@@ -146,6 +150,7 @@ fn guest_call(
     ensures words { IfOk result
         (λ p. code ∷ caller ∷ words.now ≡ guest_words caller p.0 ++ p.1.now) }
     ensures typed { IfOk result (λ p. Typed (told_guest caller p.0)) }
+    ensures whole { IfOk result (λ p. GuestWhole p.0) }
 {
     match code {
         16 => {
@@ -196,6 +201,7 @@ fn entry(alloc: Global, members: u32, words: &[u32]) -> Result<(Entry, &[u32]), 
     ensures words { IfOk result (λ p. words.now ≡ entry_words p.0 ++ p.1.now) }
     ensures member { IfOk result (λ p. p.0.who < members) }
     ensures typed { IfOk result (λ p. Typed (told p.0.call)) }
+    ensures whole { IfOk result (λ p. CallWhole p.0.call) }
 {
     let (who, rest) = number(words)?;
     if members <= who {
@@ -225,6 +231,7 @@ pub fn entries(alloc: Global, members: u32, words: &[u32]) -> Result<Vec<Entry>,
     ensures words { IfOk result (λ v. words.now ≡ entries_words v.items) }
     ensures members { IfOk result (λ v. All (λ e. e.who < members) v.items) }
     ensures typed { IfOk result (λ v. All (λ e. Typed (told e.call)) v.items) }
+    ensures whole { IfOk result (λ v. All (λ e. CallWhole e.call) v.items) }
 {
     let mut all = Vec::new(alloc);
     let mut rest = words;
@@ -238,7 +245,8 @@ pub fn entries(alloc: Global, members: u32, words: &[u32]) -> Result<Vec<Entry>,
 
 /// The head of a list, and the words behind it.
 pub fn head(words: &[u32]) -> Result<(Head, &[u32]), Failure>
-    ensures { IfOk result (λ p. words.now ≡ head_words p.0 ++ p.1.now) }
+    ensures words { IfOk result (λ p. words.now ≡ head_words p.0 ++ p.1.now) }
+    ensures sheet { IfOk result (λ p. length p.0.sheet ≡ 40) }
 {
     let (mark, rest) = number(words)?;
     if mark != MARK {
