@@ -1,11 +1,14 @@
 -- What making a list again comes to, and the bytes that tell it.
-use Rattle.std.specs.Prelude.{◌≡◌, ◌<◌, List, [], ◌++◌, ℕ, length, All}
+use Rattle.std.specs.Prelude.{◌≡◌, ◌<◌, List, [], ◌++◌, ℕ, Option, length, All}
+use Rattle.std.specs.Io.KnownBytes.{Keeps}
 use Rattle.std.specs.Int.{w32, w64, to_le_bytes}
 use Rattle.std.specs.List.{flat_map}
 use Rattle.nonforking.specs.Statement.{Run}
 use Rattle.library.specs.Hosts.{Hosts, members, calls_in}
 use Rattle.replaying.specs.declared.calls.Entry.{Entry}
 use Rattle.replaying.specs.declared.calls.Keeper.{Keeper}
+use Rattle.replaying.specs.declared.failure.Failure.{Failure}
+use Rattle.replaying.specs.declared.failure.Failure.TheVariants.{Stream}
 use Rattle.replaying.specs.declared.heads.Head.{Head}
 use Rattle.replaying.specs.Lists.{CallWhole, list_words}
 use Rattle.replaying.specs.Runs.{Stand, after_run, answers_of, newest, NeverFork, SameCommittees}
@@ -54,3 +57,8 @@ pub record Told (b t : List ℕ) : Type 0 where
   pub bytes : b ≡ bytes_of words
   pub made : Replays words head entries keepers answers
   pub tells : t ≡ told_bytes keepers answers
+
+-- why a list is not made again: nothing is told then, unless the writer itself has failed; a has what was told before, b what is told afterwards
+abbrev pub Silent : Failure → Option (List ℕ) → Option (List ℕ) → Type 0
+Silent (Stream e) a b = Unit {0}
+Silent f a b = Keeps a b

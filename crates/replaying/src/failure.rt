@@ -37,6 +37,11 @@ impl From<AllocError> for Failure {
 }
 
 impl From<io::Error> for Failure {
+    ghost use Rattle.std.specs.Prelude.{◌≡◌};
+    ghost use Rattle.replaying.specs.declared.failure.Failure.TheVariants.{Stream};
+
+    ghost from_gives = { λ error failure. failure ≡ Stream error };
+
     fn from(error: io::Error) -> Failure {
         Failure::Stream(error)
     }

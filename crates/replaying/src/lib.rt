@@ -11,11 +11,11 @@ pub mod opening;
 pub mod reading;
 pub mod telling;
 
-ghost use Rattle.std.specs.Prelude.{◌≡◌, List, ℕ, IfOk, IfSome, IsOk};
+ghost use Rattle.std.specs.Prelude.{◌≡◌, List, ℕ, IfOk, IfErr, IfSome, IsOk};
 ghost use Rattle.std.specs.Io.KnownBytes.{Appends};
 ghost use Rattle.replaying.specs.declared.calls.Entry.{Entry};
 ghost use Rattle.replaying.specs.declared.heads.Head.{Head};
-ghost use Rattle.replaying.specs.Replays.{Replays, Told};
+ghost use Rattle.replaying.specs.Replays.{Replays, Told, Silent};
 
 use crate::calls::Keeper;
 use crate::failure::Failure;
@@ -43,8 +43,10 @@ pub fn replay(alloc: Global, words: &[u32]) -> Result<(Vec<Keeper>, Vec<u64>), F
 /// # Errors
 /// Those of `replay`, and a read or a write that failed.
 pub fn serve<R: Read, W: Write>(alloc: Global, input: &mut R, output: &mut W) -> Result<(), Failure>
-    ensures { IsOk result → IfSome (R.remaining input.old) (λ bytes. (told : List ℕ)
+    ensures made { IsOk result → IfSome (R.remaining input.old) (λ bytes. (told : List ℕ)
         × Told bytes told × Appends (W.contents output.old) (W.contents output.new) told) }
+    ensures refused { IfErr result (λ f.
+        Silent f (W.contents output.old) (W.contents output.new)) }
 {
     let mut bytes = Vec::new(alloc);
     input.read_to_end(&mut bytes)?;

@@ -4,8 +4,8 @@ use Rattle.replaying.specs.Replays.{Told}
 use Rattle.replaying.proofs.ReplayLaws.{told_known}
 use Rattle.replaying.proofs.serve.Goals as goal
 
-pub returns : goal.returns
-returns g c _ =
+pub returns-clause-made : goal.returns-clause-made
+returns-clause-made g c _ =
     let made = rw c.deref-2.ensures.value at c.in_ok-keepers.ensures in
     let told : Told c.read_to_end.new.buf.items c.in_ok-told.told.items =
     record {
