@@ -707,9 +707,9 @@ uint32_t forgelilac_guest_port_write(uint32_t caller,
  * table, the kept committees, and makes the owner's call, forgelilac_owned_..., in place of forgelilac_...:
  * the same parameters, with the kept committees behind the table. It does and answers what the other one
  * does, with the same refusals, and takes the same little time however much is held. Of a commit, a
- * preview and a batch that goes by how many blocks, entries and certificates there are; block rows, the
- * chain that is made of them, and a guest's read of its port where the next line is looked for or nothing
- * waits, pass over all that is held here too. docs/HOSTS.md, "A host that owns its words", tells when to
+ * preview and a batch that goes by how many blocks, entries and certificates there are; block rows
+ * and the chain that is made of them look at the mark of all that is held, and a guest's read of its port
+ * at a block's end looks for the next block's first line from round 1 up. docs/HOSTS.md, "A host that owns its words", tells when to
  * use them.
  *
  * The premise of each: the words are owned. Words are owned from an accepted forgelilac_owned_resume on, as

@@ -100,6 +100,7 @@ for damaged in short torn other; do
         echo "the replayer takes a damaged list ($damaged)" >&2
         exit 1
     fi
-    [ ! -s "$out/again" ] && grep -q '^replayer: these are the words of no list' "$out/said"
+    [ ! -s "$out/again" ] || { echo "the replayer tells something of a damaged list ($damaged)" >&2; exit 1; }
+    grep -q '^replayer: these are the words of no list' "$out/said" || { echo "the replayer does not say what is wrong ($damaged)" >&2; exit 1; }
 done
 echo "three damaged lists: refused in words, and nothing told"

@@ -1,6 +1,6 @@
 //! The replayer on standard input and output: a run's calls made again by proved code.
 //!
-//! A list of calls comes in, and the bytes that tell what they answered and left go out. `serve` of replaying is handed standard input and output, and its contract says what comes of them. docs/PLANT.md, "The calls of a run, made again".
+//! A list of calls comes in, and the bytes that tell what they answered and left go out. `serve` of replaying is handed standard input and output, and its contract says what comes of them, whatever reader and writer they are (docs/TRUST.md, "On trust in the runner"). docs/PLANT.md, "The calls of a run, made again".
 #![tactic(auto)]
 
 use std::process::ExitCode;
