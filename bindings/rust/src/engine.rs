@@ -18,8 +18,8 @@ use core::fmt;
 /// itself, so engines may be called from several threads at once, each by one at a time.
 ///
 /// An `Engine` owns its words, and nothing else writes them: they are tested once, when it is opened or
-/// restored, and a call then takes the same little time however much is held; a chain, block rows and
-/// a port read at a block's end pass over all that is held. For that it keeps the
+/// restored, and a call then takes the same little time however much is held; a chain and block rows
+/// look at the mark of all that is held, and a port read at a block's end looks from round 1 up. For that it keeps the
 /// committees of the rounds it knows too, [`crate::layout::kept_words`] of them in words of 64 bits.
 /// [`Engine::is_well_formed`] tests again, for a host that fears for its memory. An `Engine<Lent>` tests its
 /// words in each call, as the calls of [`lent`] do, and so may have any: see [`Engine::lent`].
