@@ -6,6 +6,7 @@ pub mod Options
 pub mod FoldLaws
 pub mod TestLaws
 pub mod SumLaws
+pub mod RangeSums
 pub mod SetLaws
 pub mod UnionLaws
 pub mod PasteLaws

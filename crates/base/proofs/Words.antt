@@ -1,6 +1,7 @@
 -- Words of the prover's own library that proofs here cite and std's Common does not pass on. Declares nothing.
 pub use borrow.Author.Tests.{eqb-false, lt-leb, not-false, not-true}
 pub use borrow.Rule.Slice.PartMut.{mid_len, mid_of, put_mid}
+pub use denote.Param.{number}
 pub use denote.Param.Members.{Mut}
 pub use lib.Bits.{and_le_l, and_step, or_lt, or_step}
 unfoldable pub use lib.Count.{ones, ones_in}
@@ -14,3 +15,4 @@ pub use mathlib.Core.Bool.{and-false, and-or_distrib_left, and-true, and_assoc, 
 pub use mathlib.Core.Path.{fun_ext}
 pub use native.Mathlib.Decide.{dec_le, dec_lt, ℕ_discrete}
 pub use native.Mathlib.Nat.{div-add-mod, div-div-eq-div-mul, lt-div-mul-add, lt_of_mul-lt-mul_left, pow-succ'}
+pub use native.Mathlib.Numerals.{add-two}

@@ -27,15 +27,6 @@ record_put e t h n =
     ∙ paste-append t 0 (head ++ e.body) (e.endorsers ∷ []) 16 1 (length-append head e.body ∙ ap (λ (z : ℕ). 2 + z) h) (omega arith)
     ∙ paste-whole t (head ++ e.body ++ (e.endorsers ∷ [])) 17 n (length_record e h))
 
--- a record whose words cannot be read offers nothing, and one whose words can be read their certificate
-pub offers_nothing : (e : CertificateRecord) → certificate_reads (record_words e) ≡ false → certificate_of e ≡ None
-unfolding certificate_of
-offers_nothing e h = rw h refl
-
-pub offers_one : (e : CertificateRecord) → certificate_reads (record_words e) ≡ true → certificate_of e ≡ Some (certificate_in (record_words e))
-unfolding certificate_of
-offers_one e h = rw h refl
-
 -- what a record offers is the certificate of its words, which can be read
 pub offered-by : (e : CertificateRecord) (c : Certificate) → certificate_of e ≡ Some c → (certificate_reads (record_words e) ≡ true) × (c ≡ certificate_in (record_words e))
 unfolding certificate_of

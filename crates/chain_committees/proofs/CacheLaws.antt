@@ -29,9 +29,6 @@ module _ (S : Settings) (c : Chain Content) (first : ℕ) where
     pub begins : first_round cache ≡ first
     pub committee : (r : ℕ) → first ≤ r → r < q → words_at first r + 16 ≤ length cache → weights_at cache (words_at first r) ≡ committee_of S c r
 
-  pub caches_none : (cache : List ℕ) → first_round cache ≡ first → CachesTo first cache
-  caches_none cache e = record { begins = e; committee = λ r l h k. absurd (omega arith) }
-
   -- round q, where there is room for it
   pub caches_more : {q : ℕ} {cache : List ℕ} (w : List Weight) → first ≤ q → words_at first q + 16 ≤ length cache → length w ≡ 16 → w ≡ committee_of S c q → CachesTo q cache
       → CachesTo (q + 1) (paste cache (words_at first q) (numbers w) 16)

@@ -45,19 +45,6 @@ module _ {S : Settings} {t : List ℕ} {blocks : ℕ} where
   pub after-at : {q k : ℕ} {w : List Weight} (q' : ℕ) → last_round t k ≤ q' → AfterBlocks S t blocks q k w → AfterBlocks S t blocks q' k w
   after-at q' h s = record { within = s.within; passed = h; weights = s.weights }
 
-  -- no block has a round above the ceiling
-  pub after_any : {q k : ℕ} {w : List Weight} → ChainInTable S t blocks → AfterBlocks S t blocks q k w → AfterBlocks S t blocks 1024 k w
-  after_any {k = k} a s = after-at 1024 (go (ℕ_discrete k 0)) s
-    where
-      go : Dec (k ≡ 0) → last_round t k ≤ 1024
-      go (yes z) = rw (z, last_none t) (omega arith)
-      go (no z) =
-          let i : k - 1 + 1 ≡ k = omega arith in
-          let l = s.within in
-          let b = rw i at (fits-at S.ceiling t blocks a.rounds (k - 1) (omega arith)).below in
-          let c = a.ceiling in
-          rw (last_some t k z) (omega arith)
-
   -- one block more
   pub after_next : {q k : ℕ} {w : List Weight} (v : List Weight) → k < blocks → block_round t (k + 1) ≤ q → v ≡ block_change S t k w → AfterBlocks S t blocks q k w → AfterBlocks S t blocks q (k + 1) v
   after_next {q} {k} {w} v h l e s =

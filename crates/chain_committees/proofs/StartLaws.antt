@@ -3,7 +3,8 @@ use Rattle.std.proofs.Common.{◌≡◌, sym, ◌∙◌, List, ℕ, ◌+◌, ◌
 use Rattle.base.proofs.Words.{ℕ_discrete, length-replicate}
 use Rattle.store.specs.Table.{block_round}
 use Rattle.terms.specs.declared.sheet.Settings.{Settings}
-use Rattle.committee.specs.Committees.{leader_by, start_of}
+use Rattle.committee.specs.Chain.{chain_of}
+use Rattle.committee.specs.Committees.{committee_of, leader_by, start_of}
 use Rattle.committee.specs.Leaders.{leader_of}
 use Rattle.committee.proofs.LeaderLaws.{leader_le}
 use Rattle.terms.specs.Ranges.{weight_in}
@@ -11,7 +12,7 @@ use Rattle.chain_committees.specs.BlockChanges.{place_change, start_at}
 use Rattle.chain_committees.proofs.BlockChangeLaws.{block-rows}
 use Rattle.chain_committees.proofs.BoundLaws.{after_total}
 use Rattle.chain_committees.specs.LinkRuns.{rows_over}
-use Rattle.chain_committees.proofs.ChainLaws.{last_more, fits-at, start-now}
+use Rattle.chain_committees.proofs.ChainLaws.{last_more, fits-at, start-whole, start-now}
 use Rattle.chain_committees.specs.ChainInTable.{ChainInTable, AfterBlocks}
 use Rattle.chain_committees.proofs.ChainInTableLaws.{after_next}
 use Rattle.chain_committees.specs.Starts.{Started, StartsAhead}
@@ -21,6 +22,11 @@ use Rattle.terms.specs.declared.sheet.Weight.{Weight}
 pub start_le : (S : Settings) (t : List ℕ) (k : ℕ) → start_at S t k ≤ 16
 unfolding start_at start_of leader_by
 start_le S t k = leader_le _ _
+
+-- it is the leader by the committee of its round
+pub start_led : {S : Settings} {t : List ℕ} {blocks k j v r : ℕ} {w : List Weight} → ChainInTable S t blocks → k < blocks → r ≡ block_round t j → j ≡ k + 1 → w ≡ committee_of S (chain_of S.ceiling t blocks) r → v ≡ unwrap_or (leader_of (weight_in w) r) 16 → v ≡ start_at S t k
+unfolding leader_by
+start_led {S} {t} {blocks} {k} a h at i e l = rw (e, at, i) at l ∙ sym (start-whole S t blocks a.rounds k h)
 
 module _ {S : Settings} {t : List ℕ} {blocks : ℕ} where
   -- the rounds of blocks rise

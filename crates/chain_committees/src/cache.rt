@@ -2,9 +2,10 @@
 //!
 //! The first word of a cache is the first round that it has; then come sixteen words for each round from there on, up to the ceiling, as far as there is room.
 
-ghost use Rattle.std.specs.Prelude.{◌≡◌, true, ◌+◌, ◌<◌, ◌≤◌, length};
+ghost use Rattle.std.specs.Prelude.{◌≡◌, true, ◌+◌, ◌<◌, ◌≤◌, length, IfSome};
 ghost use Rattle.std.proofs.Math.Seq.{paste};
 ghost use Rattle.committee.specs.Committees.{committee_of};
+ghost use Rattle.chain_committees.specs.BlockChanges.{start_at};
 ghost use Rattle.chain_committees.specs.Caches.{first_round, words_at, words_to, weights_at, numbers, InWindow, Caches};
 ghost use Rattle.chain_committees.specs.Pairs.{PairOf};
 ghost use Rattle.chain_committees.specs.Told.{blocks_in};
@@ -14,8 +15,9 @@ use crate::chain::Chain;
 use crate::walk::Walk;
 use crate::{bonded, over_blocks};
 use committee::committees::{Committee, Committees};
-use terms::Round;
+use committee::leader;
 use terms::sheet::Weight;
+use terms::{Member, Round};
 
 /// Where the rounds of a cache start, behind the word for the first of them.
 pub const ROUNDS: usize = 1;
@@ -113,6 +115,21 @@ pub fn committee(cache: &[u64], chain: Chain, round: Round) -> Committee
     } else {
         bonded::committee_of(chain, round)
     }
+}
+
+/// With whom the rows of the block after the first ones, `before` in number, start, 16 for none: the leader of its round, where the committee is cached.
+pub fn start_of(cache: &[u64], chain: Chain, before: u32) -> Option<Member>
+    requires before { before < chain.blocks }
+    requires caches { let c = chain in Caches c.settings.now (blocks_in c) cache.now }
+    ensures { let c = chain.entry in
+        IfSome result (λ m. (m.0 ≡ start_at c.settings.now c.table.now before) × (m.0 ≤ 16)) }
+{
+    let round = store::block_round(chain.table, before + 1);
+    if !is_cached(cache, chain.settings.ceiling, round) {
+        return None;
+    }
+    let committee = cached_at(cache, chain, round);
+    Some(leader::leader(&committee.weights, round))
 }
 
 // The rounds from the first up to the ceiling, by a walk that is at its start.

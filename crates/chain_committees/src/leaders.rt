@@ -13,8 +13,8 @@ use committee::leader;
 use terms::Round;
 
 // The leaders by a walk that is at its start.
-#[tactic(auto, using(crate::proofs::FillLaws::fill_none, crate::proofs::FillLaws::fill_more), unfolding(crate::specs::Fill::leader_at, committee::specs::Committees::leader_by))]
-fn filled(walk: &mut Walk, low: Round, top: Round, leaders: &mut [u32; 1025]) -> Committee
+#[tactic(auto, using(crate::proofs::FillLaws::fill_none, crate::proofs::FillLaws::fill_more, committee::proofs::LeaderLaws::leader_le), unfolding(crate::specs::Fill::leader_at, committee::specs::Committees::leader_by))]
+fn filled(walk: &mut Walk, low: Round, top: Round, leaders: &mut [u8; 1025]) -> Committee
     requires { (passed walk.old ≡ 0) × RoundSpan low top }
     ensures { let c = walk.old.chain in
         LeadersFilled c.settings.now (blocks_in c) low top leaders.old leaders.new result }
@@ -22,7 +22,7 @@ fn filled(walk: &mut Walk, low: Round, top: Round, leaders: &mut [u32; 1025]) ->
     for q in low.0..top.0 {
         let round = Round(q + 1);
         walk.reach(round);
-        leaders[q as usize + 1] = leader::leader(&walk.weights, round).0;
+        leaders[q as usize + 1] = leader::leader(&walk.weights, round).0 as u8;
     }
     walk.reach(Round(top.0 + 1));
     walk.committee()
@@ -30,7 +30,7 @@ fn filled(walk: &mut Walk, low: Round, top: Round, leaders: &mut [u32; 1025]) ->
 
 /// Writes the number of the leader of each round above `low` up to `top` into `leaders`, by round, 16 for none; gives the committee of the round above `top`.
 /// The span may be empty, and goes up to 1,024; the ceiling is no bound of it. All else of `leaders` stays.
-pub fn fill_leaders(chain: Chain, low: Round, top: Round, leaders: &mut [u32; 1025]) -> Committee
+pub fn fill_leaders(chain: Chain, low: Round, top: Round, leaders: &mut [u8; 1025]) -> Committee
     requires { RoundSpan low top }
     ensures { let c = chain.entry in
         LeadersFilled c.settings.now (blocks_in c) low top leaders.old leaders.new result }

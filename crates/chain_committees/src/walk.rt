@@ -21,15 +21,15 @@ pub struct Walk<'a> {
     /// The chain whose blocks they are.
     pub chain: Chain<'a>,
     /// The first place of each block, 16 r + m for the certificate of member m and round r.
-    pub head: [u32; 512],
+    pub head: [u16; 512],
     /// Of each place, the next one of the same block.
-    pub next: &'a [u32],
+    pub next: &'a [u16],
     /// How many blocks are applied to the committee.
     pub applied: u32,
     /// Of how many blocks the starts are written: of those that are applied, and of some after them.
     pub begun: u32,
     /// The number of the leader of each block's round, 16 for none.
-    pub starts: [u32; 512],
+    pub starts: [u8; 512],
     /// The committee that the applied blocks leave.
     pub weights: [Weight; 16],
     ghost linked: { AllLinked chain.table.now chain.settings.now.ceiling head next.now },
@@ -39,12 +39,13 @@ pub struct Walk<'a> {
 }
 
 // Writes the starts of the blocks up to lookback rounds after the one that comes after the first `applied`, where those of the first `begun` are written; gives of how many they are written then.
+#[tactic(auto, using(committee::proofs::LeaderLaws::leader_le))]
 fn fill_starts(
     chain: Chain,
     applied: u32,
     begun: u32,
     weights: &[Weight; 16],
-    starts: &mut [u32; 512],
+    starts: &mut [u8; 512],
 ) -> u32
     requires more { applied < chain.blocks }
     requires after { let c = chain in
@@ -61,7 +62,7 @@ fn fill_starts(
         if last < round.0 as u64 {
             return i;
         }
-        starts[i as usize] = leader::leader(weights, round).0;
+        starts[i as usize] = leader::leader(weights, round).0 as u8;
     }
     chain.blocks
 }
@@ -75,7 +76,7 @@ impl<'a> Walk<'a> {
 
     /// The start of a walk: no block is applied. `next` has a word for each place of the rounds from 0 up to the ceiling, and is written.
     #[tactic(auto, using(crate::proofs::ChainLaws::last_none))]
-    pub fn new(chain: Chain<'a>, next: &'a mut [u32]) -> Walk<'a>
+    pub fn new(chain: Chain<'a>, next: &'a mut [u16]) -> Walk<'a>
         requires { chain.settings.now.ceiling * 16 + 16 ≤ length next.old }
         ensures chain { result.chain ≡ chain.entry }
         ensures start { passed result ≡ 0 }
@@ -101,7 +102,7 @@ impl<'a> Walk<'a> {
     {
         let k = self.applied;
         self.begun = fill_starts(self.chain, k, self.begun, &self.weights, &mut self.starts);
-        let start = Member(self.starts[k as usize]);
+        let start = Member(self.starts[k as usize] as u32);
         block::apply_block(
             self.chain.table,
             &self.head,
@@ -177,7 +178,7 @@ impl<'a> Walk<'a> {
             result.0 ≡ start_at c.settings.now c.table.now before }
         ensures to { result.0 ≤ 16 }
     {
-        Member(self.starts[before as usize])
+        Member(self.starts[before as usize] as u32)
     }
 }
 

@@ -26,7 +26,7 @@ pub fn commit_cached(formed: bool, state: &mut State, table: &mut [u32]) -> Resu
     ensures table { table.new ≡ commit_table_after state.old table.old }
     ensures ruled { IfOk result (λ n. RulesGive state.old table.old n state.new table.new) }
 {
-    let mut leaders = [0u32; 1025];
+    let mut leaders = [0u8; 1025];
     checks::check(&View::known(formed, &[], state, table)?, &mut leaders)?;
     let blocks = state.blocks;
     let last = bonded::last_round(table, blocks);

@@ -2,6 +2,9 @@
 use Rattle.std.specs.Prelude.{◌≡◌, true, ◌⊎◌, List, ℕ, ◌-◌, ◌<◌, ◌≤◌}
 use Rattle.base.specs.Checks.{refusal}
 use Rattle.store.specs.Table.{held_at, mark_at}
+use Rattle.agreement.specs.Weights.{total}
+use Rattle.terms.specs.Ranges.{weight_in}
+use Rattle.committee.specs.Committees.{bound_of}
 use Rattle.state.specs.declared.State.{State}
 use Rattle.state.specs.Formed.{Formed}
 use Rattle.refusals.specs.Refusals.{refusal_in}
@@ -17,27 +20,28 @@ module _ (s : State) (t : List ℕ) where
     pub formed : Formed s t
     pub in_time : refusal (time_checks s t) ≡ 0
 
-  -- so it is, and the certificate of author a and round q has a place
+  -- and so do those of the votes
+  pub record Passes : Type 0 where
+    pub timely : InTime
+    pub voted : refusal (vote_checks s t) ≡ 0
+
+  -- the checks of time let the state pass, and the certificate of author a and round q has a place
   pub record MayLack (a q : ℕ) : Type 0 where
     pub timely : InTime
     pub member : a < 16
     pub from : 0 < q
     pub to : q ≤ s.settings.ceiling
 
-  -- and so do those of the votes
-  pub record Passes : Type 0 where
-    pub timely : InTime
-    pub voted : refusal (vote_checks s t) ≡ 0
-
   -- p has what the votes answer, and what they go by
   pub record Polls (p : Polled) : Type 0 where
     pub its_refusal : refusal_in p.answer ≡ refusal (vote_checks s t)
     pub anchor : AnchorLed s t p.leader.0 p.committee
 
-  -- the state would commit, and x has what the votes go by, and their weight
+  -- the state would commit, and x has what the votes go by, the bound, and their weight
   pub record Weighs (x : Weighed) : Type 0 where
     pub passes : Passes
     pub anchor : AnchorLed s t x.leader.0 x.committee
+    pub its_bound : x.bound.0 ≡ bound_of x.committee.margin (total 16 (weight_in x.committee.weights))
     pub its_votes : x.votes.0 ≡ votes_for t x.committee.weights s.round x.leader.0
 
 -- q is the present round or the one before

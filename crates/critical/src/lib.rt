@@ -37,6 +37,8 @@ pub struct Weighed {
     pub leader: Member,
     /// The committee of the present round.
     pub committee: Committee,
+    /// The fault bound of that committee.
+    pub bound: Weight,
     /// The weight of the present round's votes for the leader's certificate.
     pub votes: Weight,
 }
@@ -53,6 +55,7 @@ impl Weighed {
         Weighed {
             leader,
             committee,
+            bound: committee.bound(),
             votes,
         }
     }
@@ -63,13 +66,13 @@ fn poll(state: &State, table: &[u32]) -> Polled
     requires { InTime state.now table.now }
     ensures { Polls state.now table.now result }
 {
-    let mut leaders = [16u32; 1025];
+    let mut leaders = [16u8; 1025];
     let committee = checks::fill_leaders(state, table, &mut leaders);
     let answer = checks::check_votes(state, table, &leaders, &committee);
     let round = state.round;
     Polled {
         answer,
-        leader: Member(leaders[round.0 as usize - 1]),
+        leader: Member(leaders[round.0 as usize - 1] as u32),
         committee,
     }
 }
@@ -101,9 +104,9 @@ fn is_pivotal(state: &State, table: &[u32], weighed: &Weighed, author: Member, r
 {
     let now = state.round;
     if round.0 == now.0 {
-        let committee = &weighed.committee;
-        let vote = counting::vote_of(table, &committee.weights, round, weighed.leader, author);
-        weighed.votes.0 - vote.0 <= committee.bound().0
+        let weights = &weighed.committee.weights;
+        let vote = counting::vote_of(table, weights, round, weighed.leader, author);
+        weighed.votes.0 - vote.0 <= weighed.bound.0
     } else {
         author.0 == weighed.leader.0
     }

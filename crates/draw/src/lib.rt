@@ -13,8 +13,9 @@ ghost use Rattle.draw.specs.Draw.{draw_refusal, draw_state, draw_table};
 use queues::drawing;
 use refusals::Refusal;
 use state::State;
+use store::lengths::ROW;
 
-/// The call, where the state is well formed and committees may be cached. Nothing leaves its queue before the proposal is accepted.
+/// The call, where the state is well formed and committees may be cached. The draw is made on a copy of row 0, which is put in its place where the proposal is accepted: nothing leaves its queue before.
 #[tactic(auto, unfolding(base::specs::Checks::refusal, state::specs::Refusals::refusal_of, state::specs::Answers::if_accepted, propose::specs::Propose::propose_refusal, propose::specs::Propose::propose_state, crate::specs::Draw::drawn_body, crate::specs::Draw::draw_refusal, crate::specs::Draw::draw_state, crate::specs::Draw::draw_table))]
 pub fn draw_formed(
     cache: &[u64],
@@ -27,10 +28,10 @@ pub fn draw_formed(
     ensures state { state.new ≡ draw_state state.old table.old previous }
     ensures table { table.new ≡ draw_table state.old table.old previous }
 {
-    let allowance = state.settings.allowance;
-    let body = drawing::drawn_body(table, allowance, previous);
+    let mut row = [0u32; ROW];
+    let body = drawing::drawn_body(table, state.settings.allowance, previous, &mut row);
     propose::propose_cached(true, cache, state, table, body)?;
-    drawing::draw(table, allowance, previous);
+    drawing::put_first_row(table, &row);
     Ok(())
 }
 

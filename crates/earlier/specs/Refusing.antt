@@ -1,5 +1,5 @@
 -- Two ways in which engines answer, one of which refuses more: its runs, their refused calls left out, are runs of the other.
-use Rattle.std.specs.Prelude.{◌≡◌, if◌then◌else◌, List, [], ◌∷◌, ◌≢◌, ℕ, ◌==◌}
+use Rattle.std.specs.Prelude.{◌≡◌, if◌then◌else◌, List, [], ◌∷◌, ◌≢◌, ◌==◌}
 use Rattle.terms.specs.declared.Member.{Member}
 use Rattle.terms.specs.declared.sheet.Sheet.{Sheet}
 use Rattle.engine.specs.Calls.{Call, opens}

@@ -1,9 +1,7 @@
 -- What a step tells of the whole stream, whatever comes later: steps read a stream as its definition does, wherever the pieces part.
 use Rattle.std.proofs.Common.{◌≡◌, refl, ap, ◌∙◌, Bool, true, false, cond, ◌||◌, List, [], ◌∷◌, ◌++◌, map, ℕ, ◌+◌, ◌≤◌, ◌<◌, arith, drop, take, length, length-append, leb, ltb, lt-ltb, le-ltb, le-leb}
-use mathlib.Core.Bool.{and-false, or-true}
 use Rattle.std.specs.Prelude.{Option, None, Some}
-use native.Mathlib.Decide.{dec_lt}
-use borrow.Author.Tests.{lt-leb}
+use Rattle.base.proofs.Words.{and-false, or-true, dec_lt, lt-leb}
 use Rattle.framing.specs.declared.Event.TheVariants.{Record, Unreadable}
 use Rattle.framing.specs.declared.Step.{Step}
 use Rattle.framing.specs.Streams.{StreamRecord, records_of, fitting, readables, due_of, due, until_end, has_end, after_end}

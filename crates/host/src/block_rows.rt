@@ -1,5 +1,5 @@
 //! What blocks in a row hold, which a host asks for.
-#![tactic(auto, using(crate::proofs::Answered::result_unread))]
+#![tactic(auto, using(hosting::proofs::Answered::result_unread))]
 
 ghost use Rattle.std.specs.Prelude.{length};
 ghost use Rattle.engine.specs.Calls.{blocks};

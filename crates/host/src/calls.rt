@@ -1,5 +1,5 @@
 //! The calls that a host makes: open, propose, endorse, certify, accept, advance, commit.
-#![tactic(auto, using(crate::proofs::Answered::result_read, crate::proofs::Answered::result_unread, crate::proofs::Guests::some_number), unfolding(engine::specs::Values::value_of))]
+#![tactic(auto, using(hosting::proofs::Answered::result_read, hosting::proofs::Answered::result_unread, hosting::proofs::Answered::some_number), unfolding(engine::specs::Values::value_of))]
 
 ghost use Rattle.std.specs.Prelude.{[]};
 ghost use Rattle.refusals.specs.Refusals.{refusal_in, packed_in};

@@ -2,9 +2,10 @@
 //!
 //! Each has the parameters of the public call and the kept committees behind the table. It asks that state, table and kept committees are as the last of a member's calls left them, and leaves them so. docs/HOSTS.md.
 
-ghost use Rattle.std.specs.Prelude.{◌≡◌, ◌==◌, ◌≤◌, []};
+ghost use Rattle.std.specs.Prelude.{◌≡◌, ◌≢◌, ◌==◌, ◌≤◌, []};
 ghost use Rattle.hosting.specs.Calls.{plain, packed, Done};
 ghost use Rattle.hosting.specs.HostCalls.{comes_to, propose, endorse, certify, accept, advance, commit};
+ghost use Rattle.owned.specs.Known.{BeginsStill};
 ghost use Rattle.owned.specs.Owned.{Owned};
 ghost use Rattle.owned.specs.Testing.{Tells};
 ghost use Rattle.owned.specs.Resuming.{Resumable, Filled};
@@ -95,6 +96,8 @@ pub extern "C" fn forgelilac_owned_commit(
     requires { Owned state.old table.old kept.old }
     ensures done { Done packed (comes_to state.old table.old commit) result state.new table.new [] }
     ensures owned { Owned state.new table.new kept.new }
+    ensures begins { BeginsStill kept.old kept.new }
+    ensures same { (comes_to state.old table.old commit).refusal ≢ 0 → kept.new ≡ kept.old }
 {
     hosting::packed(calls::commit(state, table, kept))
 }

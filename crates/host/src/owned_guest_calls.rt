@@ -1,9 +1,10 @@
 //! The calls of guests, of a host that owns its words: the caller's right, and then the owner's call.
 #![tactic(auto, using(crate::proofs::Guests::guest_refused, crate::proofs::Guests::guest_allowed, crate::proofs::Guests::some_number))]
 
-ghost use Rattle.std.specs.Prelude.{[]};
+ghost use Rattle.std.specs.Prelude.{◌≡◌, ◌≢◌, []};
 ghost use Rattle.hosting.specs.Calls.{plain, packed, Done};
 ghost use Rattle.hosting.specs.GuestForms.{comes_to_guest, propose, draw, enqueue, endorse, certify, accept, advance, commit};
+ghost use Rattle.owned.specs.Known.{BeginsStill};
 ghost use Rattle.owned.specs.Owned.{Owned};
 
 use crate::{owned_calls, owned_queue_calls};
@@ -167,6 +168,9 @@ pub extern "C" fn forgelilac_owned_guest_commit(
     ensures done { Done packed (comes_to_guest state.old table.old caller commit) result
         state.new table.new [] }
     ensures owned { Owned state.new table.new kept.new }
+    ensures begins { BeginsStill kept.old kept.new }
+    ensures same { (comes_to_guest state.old table.old caller commit).refusal ≢ 0
+        → kept.new ≡ kept.old }
 {
     match guesting::check(state, Right::Drive, caller) {
         Ok(()) => owned_calls::forgelilac_owned_commit(state, table, kept),

@@ -1,5 +1,5 @@
 //! Guests' serial ports: a read or a write for the guest whose port it is, and the host's own reset.
-#![tactic(auto, using(crate::proofs::Answered::result_read, crate::proofs::Answered::port_early, crate::proofs::Answered::port_unread, crate::proofs::Guests::some_number), unfolding(engine::specs::Values::value_of))]
+#![tactic(auto, using(hosting::proofs::Answered::result_read, hosting::proofs::Answered::port_early, hosting::proofs::Answered::port_unread, hosting::proofs::Answered::some_number), unfolding(engine::specs::Values::value_of))]
 
 ghost use Rattle.std.specs.Prelude.{[]};
 ghost use Rattle.serial.specs.Calls.{access, read, write, reset};

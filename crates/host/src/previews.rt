@@ -1,5 +1,5 @@
 //! The preview of a commit that a host asks for.
-#![tactic(auto, using(crate::proofs::Answered::result_unread))]
+#![tactic(auto, using(hosting::proofs::Answered::result_unread))]
 
 ghost use Rattle.std.specs.Prelude.{length};
 ghost use Rattle.engine.specs.Calls.{preview};

@@ -1,5 +1,5 @@
 //! The reads that a host makes: committee, share, bond effect, certificate, block, and the length of a table.
-#![tactic(auto, using(crate::proofs::Answered::result_read, crate::proofs::Answered::result_unread, crate::proofs::Guests::some_number), unfolding(engine::specs::Values::value_of, reads::specs::Reads::committee_refusal, reads::specs::Reads::share_refusal, reads::specs::Reads::effect_refusal, reads::specs::Reads::certificate_refusal, reads::specs::Reads::block_refusal, reads::specs::Held::certificate_read))]
+#![tactic(auto, using(hosting::proofs::Answered::result_read, hosting::proofs::Answered::result_unread, hosting::proofs::Answered::some_number), unfolding(engine::specs::Values::value_of, reads::specs::Reads::committee_refusal, reads::specs::Reads::share_refusal, reads::specs::Reads::effect_refusal, reads::specs::Reads::certificate_refusal, reads::specs::Reads::block_refusal, reads::specs::Held::certificate_read))]
 
 ghost use Rattle.std.specs.Prelude.{◌≡◌, []};
 ghost use Rattle.store.specs.Table.{used_length};

@@ -10,3 +10,4 @@ pub mod OpenLaws
 pub mod BoundLaws
 pub mod PortLaws
 pub mod GuestedLaws
+pub mod Answered

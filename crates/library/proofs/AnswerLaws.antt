@@ -18,7 +18,7 @@ use Rattle.hosting.specs.GuestForms.{guest_reads, guest_in, guest_out}
 use Rattle.batching.specs.declared.rows.CertificateRecord.{CertificateRecord}
 use Rattle.batching.specs.Rows.{row_of}
 use Rattle.batching.specs.Batched.{batch_result}
-use Rattle.library.specs.Calls.{LibraryCall, by_host, by_guest, batch_by_host, batch_by_guest, has_room, request_in, comes_to}
+use Rattle.library.specs.Calls.{LibraryCall, by_host, by_guest, batch_by_host, batch_by_guest, has_room, request_in}
 use Rattle.library.specs.Lists.{Words, Opening, AllTyped, after_list, after_opening, AnsweredAs, RefusedUnread, Answered}
 use Rattle.library.proofs.StepLaws.{refusal-same, room-served, served-room, caller_same}
 use Rattle.library.proofs.ListLaws.{words_give_engines}

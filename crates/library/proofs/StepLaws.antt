@@ -3,7 +3,7 @@ use Rattle.std.proofs.Common.{◌≡◌, refl, sym, ap, ap₂, ◌∙◌, Bool, 
 use Rattle.base.proofs.Words.{ℕ_discrete}
 use Rattle.base.specs.Options.{if_there}
 use Rattle.base.proofs.Bools.{both}
-use Rattle.engine.specs.Calls.{Call, opens, propose, endorse, certify, accept, advance, commit, enqueue, draw, port, aside}
+use Rattle.engine.specs.Calls.{Call, opens}
 use Rattle.engine.specs.Engine.{Engine, refusal_for, after}
 use Rattle.engine.proofs.AfterLaws as engine
 use Rattle.engine.proofs.AfterLaws.{accepted-new}

@@ -1,9 +1,11 @@
 -- Laws of lines: numbers digit by digit, and lengths.
-use Rattle.std.proofs.Common.{◌≡◌, refl, ap, sym, ◌∙◌, List, [], ◌∷◌, ◌++◌, append_assoc, append-nil, ℕ, zero, suc, ◌+◌, ◌/◌, ◌%◌, ◌^◌, ◌≤◌, ◌<◌, arith, pow-suc, length, length-append, lt-ltb, le-ltb, add-one}
-use Rattle.base.proofs.Words.{dec_lt}
+use Rattle.std.proofs.Common.{◌≡◌, refl, ap, sym, ◌∙◌, List, [], ◌∷◌, ◌++◌, take, drop, append_assoc, append-nil, ℕ, zero, suc, ◌+◌, ◌-◌, ◌/◌, ◌%◌, ◌^◌, ◌≤◌, ◌<◌, arith, pow-suc, length, length-append, lt-ltb, le-ltb, add-one}
+use Rattle.base.proofs.Words.{dec_lt, put_mid}
 use Rattle.base.specs.Folds.{tab}
 use Rattle.base.proofs.Ranges.{tab_next}
 use Rattle.terms.specs.declared.Transaction.{Transaction}
+use Rattle.std.proofs.lemmas.List.{drop-drop}
+use Rattle.std.proofs.lemmas.List.Edits.{sets, sets-eq}
 use Rattle.listing.specs.Lines.{digits_to, decimal, triple_fields, triples_fields}
 
 digits_small : (k n : ℕ) → n < 10 → digits_to k n ≡ (48 + n) ∷ []
@@ -70,3 +72,7 @@ triples_next f k = rw (add-one k, tab_next f k) (triples-more (tab f k) (f k))
 pub triples_none : (f : ℕ → Transaction) → triples_fields (tab f 0) ≡ []
 unfolding tab triples_fields
 triples_none f = refl
+
+-- bytes copied over those from a place on are put there one by one
+pub copied : (w t : List ℕ) (at : ℕ) → at + length w ≤ length t → put_mid at (at + length w - at) t w ≡ sets t at w
+copied w t at h = let n : at + length w - at ≡ length w = omega arith in rw (n, drop-drop (length w) at t) (sym (sets-eq w t at h ∙ append_assoc (take at t) w (drop (at + length w) t)))

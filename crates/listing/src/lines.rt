@@ -17,6 +17,7 @@ fn put_byte(buffer: &mut [u8], at: usize, byte: u8) -> usize
 }
 
 // All of `bytes`.
+#[tactic(auto, using(crate::proofs::LineLaws::copied))]
 fn put_bytes(buffer: &mut [u8], at: usize, bytes: &[u8]) -> usize
     requires { at + length bytes.now ≤ length buffer.old }
     ensures { Puts buffer.old buffer.new at result bytes.now (length bytes.now) }

@@ -16,7 +16,7 @@ use Rattle.batching.specs.TakenTurns.{number_of, table_of, AllTaken}
 use Rattle.batching.specs.Batched.{batch_result}
 use Rattle.batching.proofs.DoneLaws as done
 use Rattle.owned.specs.Owned.{Owned}
-use Rattle.owned.proofs.Answered.{result_read, result_unread}
+use Rattle.hosting.proofs.Answered.{result_read, result_unread}
 
 -- ---- one turn
 

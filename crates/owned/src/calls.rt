@@ -1,10 +1,11 @@
 //! The calls of a host that owns its words: propose, endorse, certify, accept, advance, commit.
-#![tactic(auto, using(crate::proofs::Answered::result_read, crate::proofs::Answered::result_unread, crate::proofs::Answered::some_number), unfolding(engine::specs::Values::value_of))]
+#![tactic(auto, using(hosting::proofs::Answered::result_read, hosting::proofs::Answered::result_unread, hosting::proofs::Answered::some_number), unfolding(engine::specs::Values::value_of))]
 
-ghost use Rattle.std.specs.Prelude.{[]};
+ghost use Rattle.std.specs.Prelude.{◌≡◌, [], IfErr};
 ghost use Rattle.refusals.specs.Refusals.{refusal_in, packed_in};
 ghost use Rattle.hosting.specs.Calls.{plain, packed, Done};
 ghost use Rattle.hosting.specs.HostCalls.{comes_to, propose, endorse, certify, accept, advance, commit};
+ghost use Rattle.owned.specs.Known.{BeginsStill};
 ghost use Rattle.owned.specs.Owned.{Owned};
 
 use crate::{committing, known};
@@ -118,6 +119,8 @@ pub fn commit(state: &mut [u32], table: &mut [u32], kept: &mut [u64]) -> Result<
     ensures done { Done packed (comes_to state.old table.old commit) (packed_in result)
         state.new table.new [] }
     ensures owned { Owned state.new table.new kept.new }
+    ensures begins { BeginsStill kept.old kept.new }
+    ensures same { IfErr result (λ e. kept.new ≡ kept.old) }
 {
     let Some(mut s) = words::states::state(state) else {
         return Err(Refusal::Malformed);

@@ -1,5 +1,5 @@
 //! What a host that owns its words has listed: the preview of a commit and the certificates that it hangs on, with no look at all that is held, and what blocks in a row hold.
-#![tactic(auto, using(crate::proofs::Answered::result_unread))]
+#![tactic(auto, using(hosting::proofs::Answered::result_unread))]
 
 ghost use Rattle.std.specs.Prelude.{length};
 ghost use Rattle.engine.specs.Calls.{preview, critical, blocks};

@@ -10,15 +10,17 @@ ghost use Rattle.critical.specs.Critical.{critical_places, reading_critical, cri
 ghost use Rattle.critical.specs.Answers.{Weighs};
 ghost use Rattle.owned.specs.Known.{known};
 
-use crate::{known, leaders};
+use crate::known;
+use committee::leader;
 use critical::Weighed;
 use member_view::View;
 use refusals::Refusal;
 use state::State;
-use terms::{Member, Round};
+use terms::Round;
+use votes::checks;
 
-// The checks of a well-formed state: 25, and those of commit; the list has so many words. Gives what an accepted commit is weighed by.
-#[tactic(auto, unfolding(base::specs::Checks::refusal))]
+// The checks of a well-formed state: 25, and those of commit; the list has so many words. Gives what an accepted commit is weighed by. One leader is asked for, that of the round before.
+#[tactic(auto, using(votes::proofs::CheckLaws::refused_in_time, votes::proofs::CheckLaws::refused_by_votes), unfolding(base::specs::Checks::refusal))]
 fn weigh(view: &View, words: usize) -> Result<Weighed, Refusal>
     ensures refusal { refusal_in result
         ≡ refusal (reading_critical view.now.state.now view.now.table.now words) }
@@ -28,11 +30,12 @@ fn weigh(view: &View, words: usize) -> Result<Weighed, Refusal>
     if words / 2 < 32 {
         return Err(Refusal::LengthRange);
     }
-    let mut leaders = [16u32; 1025];
-    leaders::check(view, &mut leaders)?;
+    checks::check_time(view)?;
     let round = view.state.round;
-    let leader = Member(leaders[round.0 as usize - 1]);
+    let before = Round(round.0 - 1);
+    let leader = leader::leader(&view.committee(before).weights, before);
     let committee = view.committee(round);
+    checks::check_anchor(view.state, view.table, leader, &committee)?;
     Ok(Weighed::new(view.state, view.table, leader, committee))
 }
 

@@ -1,5 +1,5 @@
 //! Accesses to guests' serial ports and their resets, of a host that owns its words (docs/RULES.md, "Serial ports").
-#![tactic(auto, using(crate::proofs::Answered::result_read, crate::proofs::Answered::result_unread, crate::proofs::Answered::port_early, crate::proofs::Answered::port_unread, crate::proofs::Answered::some_number), unfolding(engine::specs::Values::value_of))]
+#![tactic(auto, using(hosting::proofs::Answered::result_read, hosting::proofs::Answered::result_unread, hosting::proofs::Answered::port_early, hosting::proofs::Answered::port_unread, hosting::proofs::Answered::some_number), unfolding(engine::specs::Values::value_of))]
 
 ghost use Rattle.std.specs.Prelude.{◌≡◌, []};
 ghost use Rattle.serial.specs.Calls.{access, read, write, reset};

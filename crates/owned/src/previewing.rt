@@ -19,7 +19,7 @@ use terms::Round;
 
 // The checks of a well-formed state: 25, and those of commit, by which `leaders` gets the leaders by round. The list has so many words.
 #[tactic(auto, unfolding(base::specs::Checks::refusal))]
-fn check(view: &View, words: usize, leaders: &mut [u32; 1025]) -> Result<(), Refusal>
+fn check(view: &View, words: usize, leaders: &mut [u8; 1025]) -> Result<(), Refusal>
     requires { leaders.old ≡ replicate 1025 16 }
     ensures refusal { refusal_in result
         ≡ refusal (previewing view.now.state.now view.now.table.now words) }
@@ -48,7 +48,7 @@ pub(crate) fn preview_kept(
     ensures list { list.new ≡ preview_list state.now table.now list.old }
 {
     let words = list.len();
-    let mut leaders = [16u32; 1025];
+    let mut leaders = [16u8; 1025];
     check(&known::view(state, table, kept), words, &mut leaders)?;
     let last = bonded::last_round(table, state.blocks);
     let round = state.round;

@@ -1,5 +1,5 @@
 //! The calls on guests' queues of a host that owns its words: enqueue, draw.
-#![tactic(auto, using(crate::proofs::Answered::result_read, crate::proofs::Answered::result_unread, crate::proofs::Answered::some_number), unfolding(engine::specs::Values::value_of))]
+#![tactic(auto, using(hosting::proofs::Answered::result_read, hosting::proofs::Answered::result_unread, hosting::proofs::Answered::some_number), unfolding(engine::specs::Values::value_of))]
 
 ghost use Rattle.std.specs.Prelude.{◌≡◌, []};
 ghost use Rattle.refusals.specs.Refusals.{refusal_in};

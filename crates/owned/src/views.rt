@@ -1,5 +1,5 @@
 //! The reads of a host that owns its words: committee, share, bond effect, certificate and block, with no look at all that is held.
-#![tactic(auto, using(crate::proofs::Answered::result_read, crate::proofs::Answered::result_unread, crate::proofs::Answered::some_number), unfolding(engine::specs::Values::value_of, reads::specs::Reads::committee_refusal, reads::specs::Reads::share_refusal, reads::specs::Reads::effect_refusal, reads::specs::Reads::certificate_refusal, reads::specs::Reads::block_refusal, reads::specs::Held::certificate_read))]
+#![tactic(auto, using(hosting::proofs::Answered::result_read, hosting::proofs::Answered::result_unread, hosting::proofs::Answered::some_number), unfolding(engine::specs::Values::value_of, reads::specs::Reads::committee_refusal, reads::specs::Reads::share_refusal, reads::specs::Reads::effect_refusal, reads::specs::Reads::certificate_refusal, reads::specs::Reads::block_refusal, reads::specs::Held::certificate_read))]
 
 ghost use Rattle.std.specs.Prelude.{◌≡◌, []};
 ghost use Rattle.engine.specs.Calls.{committee, share, effect, certificate, block};
@@ -59,6 +59,7 @@ pub fn share(
 }
 
 /// How far a bond of the member by the amount would move the shares of a round's committee, into the first 33 words of `out`.
+// Seven parameters: those of the host's call.
 pub fn bond_effect(
     state: &[u32],
     table: &[u32],

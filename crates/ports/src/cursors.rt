@@ -16,7 +16,6 @@ use crate::rows::{self, ByRows};
 use chain_committees::chain::Chain;
 use chain_committees::walk::Walk;
 use chain_committees::{cache, over_blocks};
-use committee::leader;
 use terms::{Member, Round};
 
 // The line of `place`, from the start of a buffer on; gives its length.
@@ -85,7 +84,7 @@ fn next_block(walk: &Walk, block: u32) -> u32
     let end = ceiling.0 * 16 + 16;
     let last = walk.chain.blocks + 1;
     (block + 1..last)
-        .find(|&j| walk.head[j as usize] < end)
+        .find(|&j| (walk.head[j as usize] as u32) < end)
         .unwrap_or(last)
 }
 
@@ -174,21 +173,6 @@ fn walked_after(chain: Chain, place: u32) -> Option<u32>
     over_blocks!(chain, walk => place_after(&mut walk, place))
 }
 
-// With whom the rows of the block after the first ones, `before` in number, start, 16 for none: the leader of its round, where the committee is cached.
-fn cached_start(chain: Chain, cache: &[u64], before: u32) -> Option<Member>
-    requires before { before < chain.blocks }
-    requires caches { let c = chain in Caches c.settings.now (blocks_in c) cache.now }
-    ensures { let c = chain.entry in
-        IfSome result (λ m. (m.0 ≡ start_at c.settings.now c.table.now before) × (m.0 ≤ 16)) }
-{
-    let round = store::block_round(chain.table, before + 1);
-    if !cache::is_cached(cache, chain.settings.ceiling, round) {
-        return None;
-    }
-    let committee = cache::committee(cache, chain, round);
-    Some(leader::leader(&committee.weights, round))
-}
-
 // The place of the first line of the block after the first ones, `before` in number, if it has one and the committee of its round is cached.
 fn cached_first(chain: Chain, cache: &[u64], before: u32) -> Option<u32>
     requires before { before ≤ chain.blocks }
@@ -200,7 +184,7 @@ fn cached_first(chain: Chain, cache: &[u64], before: u32) -> Option<u32>
     if before == chain.blocks {
         return None;
     }
-    let Some(start) = cached_start(chain, cache, before) else {
+    let Some(start) = cache::start_of(cache, chain, before) else {
         return None;
     };
     let key = next_key(chain, before + 1, start, 16);
@@ -226,7 +210,7 @@ fn cached_after(chain: Chain, cache: &[u64], place: u32) -> Option<u32>
         return cached_first(chain, cache, 0);
     }
     let block = store::record::mark(chain.table, Member(place % 16), Round(place / 16));
-    let Some(start) = cached_start(chain, cache, block - 1) else {
+    let Some(start) = cache::start_of(cache, chain, block - 1) else {
         return None;
     };
     match next_from(chain, start, place) {

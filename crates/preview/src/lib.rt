@@ -21,7 +21,7 @@ use votes::checks;
 
 // The checks of a well-formed state: 25, and those of commit, by which `leaders` gets the leaders by round. The list has so many words.
 #[tactic(auto, unfolding(base::specs::Checks::refusal))]
-fn check(view: &View, words: usize, leaders: &mut [u32; 1025]) -> Result<(), Refusal>
+fn check(view: &View, words: usize, leaders: &mut [u8; 1025]) -> Result<(), Refusal>
     ensures refusal { refusal_in result
         ≡ refusal (previewing view.now.state.now view.now.table.now words) }
     ensures leaders { OnOk result (leaders.new
@@ -42,7 +42,7 @@ pub fn preview(state: &State, table: &[u32], list: &mut [u32]) -> Result<u32, Re
     ensures list { list.new ≡ preview_list state.now table.now list.old }
 {
     let words = list.len();
-    let mut leaders = [0u32; 1025];
+    let mut leaders = [0u8; 1025];
     check(
         &View::known(state::well_formed(state, table), &[], state, table)?,
         words,

@@ -12,7 +12,7 @@ use terms::{Member, Round};
 pub(crate) struct Anchor {
     /// The block's number.
     pub block: u32,
-    /// The author of the anchor, with whose entry each round begins.
+    /// The author of the anchor, from whom on the entries of each round are put.
     pub author: Member,
 }
 
@@ -74,7 +74,7 @@ fn put_row(
     to
 }
 
-/// Puts the entries of the rounds above low up to top, the anchor's, into the list, by round, from a place on; sets has a set of authors for each round. The place behind them.
+/// Puts entries of the anchor's block into the list from `at` on, by round: for each round above `low` up to `top` those of the set of authors that `sets` has for it, from the anchor's author on. The place behind them.
 pub(crate) fn put_rows(
     list: &mut [u32],
     at: usize,

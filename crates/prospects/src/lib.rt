@@ -46,7 +46,7 @@ fn list_block<const WHOLE: bool>(
 fn list_step<const WHOLE: bool>(
     table: &[u32],
     reached: &mut Reached,
-    leaders: &[u32],
+    leaders: &[u8],
     round: Round,
     listed: Listed,
     list: &mut [u32],
@@ -60,7 +60,7 @@ fn list_step<const WHOLE: bool>(
     if author < 16 {
         let anchor = Anchor {
             block: listed.blocks + 1,
-            author: Member(author),
+            author: Member(author as u32),
         };
         Listed {
             blocks: anchor.block,
@@ -71,10 +71,10 @@ fn list_step<const WHOLE: bool>(
     }
 }
 
-// Both lists of blocks: by walks that end early, where `WHOLE`, and by those that do not.
+// The list of both public functions: where `WHOLE`, by walks that end at the first row in which they find nothing new, and else by walks that end at the first row in which they reach nothing that earlier ones did not.
 fn list_by<const WHOLE: bool>(
     table: &[u32],
-    leaders: &[u32],
+    leaders: &[u8],
     low: Round,
     top: Round,
     blocks: u32,
@@ -103,7 +103,7 @@ fn list_by<const WHOLE: bool>(
 /// Lists the blocks of the anchors above round `low` up to round `top`, oldest first, where there are `blocks` already: three words for each certificate, from the front of the list. `leaders` has the authors of the anchors by round, 16 for none. The number of words that were put.
 pub fn list_blocks(
     table: &[u32],
-    leaders: &[u32],
+    leaders: &[u8],
     low: Round,
     top: Round,
     blocks: u32,
@@ -120,7 +120,7 @@ pub fn list_blocks(
 /// As `list_blocks`, where the anchors are held and the histories of what is in blocks are in blocks: a walk ends at the first row in which it finds nothing new.
 pub fn list_whole(
     table: &[u32],
-    leaders: &[u32],
+    leaders: &[u8],
     low: Round,
     top: Round,
     blocks: u32,

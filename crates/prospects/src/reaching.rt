@@ -11,7 +11,7 @@ use terms::{Member, Round};
 /// What walks down histories reach, a set of authors for each round.
 #[derive(Debug, Drop)]
 pub(crate) struct Reached {
-    /// What all walks so far have reached.
+    /// What all walks so far have reached in the rounds that they went through. What lies below where one ended was reached by earlier walks, or is in blocks.
     pub seen: [u32; 1025],
     /// What the last walk found new, in the rounds that it went through.
     pub fresh: [u32; 1025],

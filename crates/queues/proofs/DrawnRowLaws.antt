@@ -1,17 +1,19 @@
 -- A draw that a loop makes, transaction by transaction.
-use Rattle.std.proofs.Common.{◌≡◌, refl, sym, ap, ◌∙◌, true, List, [], ◌∷◌, ◌++◌, append-nil, ℕ, suc, ◌+◌, ◌-◌, ◌<◌, ◌≤◌, arith, length, Some, None}
+use Rattle.std.proofs.Common.{◌≡◌, refl, sym, ap, ◌∙◌, true, List, [], ◌∷◌, ◌++◌, append-nil, ℕ, suc, ◌+◌, ◌-◌, ◌<◌, ◌≤◌, arith, length, take, drop, get_or-take, take-append-drop, length-take-le, Some, None}
+use Rattle.std.proofs.lemmas.Grind.{same_number_lists}
 use Rattle.base.proofs.Words.{append_snoc}
 use Rattle.terms.specs.declared.Transaction.{Transaction}
 use Rattle.terms.specs.declared.Body.{Body}
 use Rattle.terms.specs.Proposals.{bare_body}
 use Rattle.terms.specs.Bodies.{body_of, push}
 use Rattle.terms.proofs.BodyLaws.{bare_of, push-body, body-length}
-use Rattle.store.specs.Table.{Row}
+use Rattle.store.specs.Table.{row_length, Row}
+use Rattle.store.proofs.FirstRow.{OnlyFirst, SameFirst, only-beyond}
 use Rattle.queues.specs.Queues.{next_guest, transactions_in, drawn}
 use Rattle.queues.specs.Words.{Place, waiting_at, queues_of, queues_fit, served_table, drawn_table}
-use Rattle.queues.proofs.WordLaws.{oldest-at}
+use Rattle.queues.proofs.WordLaws.{oldest-at, copy, first_row, first_queues}
 use Rattle.queues.proofs.ServedLaws.{length-served, queues-served, fits-served-table}
-use Rattle.queues.proofs.DrawLaws.{drawn-zero, drawn-none, drawn-more, table-nothing, table_more}
+use Rattle.queues.proofs.DrawLaws.{drawn-zero, drawn-none, drawn-more, table-nothing, table_more, only-drawn, drawn-same}
 use Rattle.queues.proofs.GuestLaws.{guest_place, guest_waits}
 
 -- at most a transactions are to be drawn from t₀; i of them are in the body, with previous set v, and have left their queues, which gives t
@@ -77,3 +79,23 @@ module _ {t₀ : List ℕ} {v a i : ℕ} {body : Body} {t : List ℕ} (p : Drawi
   -- where there are as many as the allowance lets
   pub drawing_all : a ≤ i → Drawn t₀ v a body t
   drawing_all l = let z : a - i ≡ 0 = omega arith in done_all (rw z (drawn-zero (queues_of t)))
+
+-- a row in the place of row 0, where nothing else differs
+first-put : (t v r : List ℕ) → Row t 0 → length r ≡ row_length → OnlyFirst t v → SameFirst v r → r ++ drop row_length t ≡ v
+first-put t v r row m o s =
+    let size = o.size in
+    let n = length-take-le row_length v (omega arith) in
+    let e : r ≡ take row_length v = same_number_lists r (take row_length v) (m ∙ sym n) (λ j h. s j (omega arith) ∙ sym (get_or-take row_length v j 0 (omega arith))) in
+    rw (e, ← only-beyond o 0) (take-append-drop row_length v)
+
+-- a draw that is made on a copy of row 0, and the row put in the place of row 0
+pub row_drawn : (t r : List ℕ) (a : ℕ) → Row t 0 → queues_fit t ≡ true → r ≡ drawn_table (drawn a (queues_of (take row_length t))) (take row_length t)
+    → r ++ drop row_length t ≡ drawn_table (drawn a (queues_of t)) t
+row_drawn t r a row fits e =
+    let q = queues_of t in
+    let c = take row_length t in
+    let d : r ≡ drawn_table (drawn a q) c = (rw (first_queues t row fits) at e) in
+    let o = only-drawn a q c (first_row t row) in
+    let n = length-take-le row_length t (omega arith) in
+    let m : length r ≡ row_length = rw d (omega (arith, o.size)) in
+    first-put t (drawn_table (drawn a q) t) r row m (only-drawn a q t row) (rw d (drawn-same a q t c row (first_row t row) (copy t row)))

@@ -1,6 +1,6 @@
 // Guests' queues as calls change them: a transaction added, and a draw (docs/RULES.md, "Guests' queues").
 
-ghost use Rattle.std.specs.Prelude.{◌≡◌, true, ◌*◌, ◌<◌, ◌≤◌, take, drop};
+ghost use Rattle.std.specs.Prelude.{◌≡◌, true, ◌++◌, ◌*◌, ◌<◌, ◌≤◌, take, drop};
 ghost use Rattle.std.proofs.Math.Seq.{paste};
 ghost use Rattle.terms.specs.Bodies.{body_of};
 ghost use Rattle.store.specs.Table.{row_length, transaction_length, Row};
@@ -66,7 +66,7 @@ fn next_guest(table: &[u32]) -> Option<u32>
 
 /// Draws as many as the allowance lets, and as wait: a body of them with a previous set. They leave their queues, and the guest drawn from last is the one served last.
 #[tactic(auto, using(crate::proofs::WordLaws::fits_served, crate::proofs::GuestLaws::guest_place, crate::proofs::GuestLaws::guest_waits, crate::proofs::DrawnRowLaws::drawing_none, crate::proofs::DrawnRowLaws::drawing_more))]
-pub fn draw(table: &mut [u32], allowance: u32, previous: u16) -> Body
+pub(crate) fn draw(table: &mut [u32], allowance: u32, previous: u16) -> Body
     requires { Row table.old 0 × (queues_fit table.old ≡ true) }
     ensures { (result ≡ body_of previous (transactions_in (drawn allowance (queues_of table.old))))
         × (table.new ≡ drawn_table (drawn allowance (queues_of table.old)) table.old) }
@@ -82,21 +82,23 @@ pub fn draw(table: &mut [u32], allowance: u32, previous: u16) -> Body
     body
 }
 
-// A copy of row 0.
-fn first_row(table: &[u32]) -> [u32; ROW]
-    requires { Row table.now 0 }
-    ensures { result ≡ take row_length table.now }
+/// The body that a draw makes, with nothing gone from its queue: the draw is made on `row`, which becomes a copy of row 0 first, and then is row 0 without what was drawn.
+#[tactic(auto, using(crate::proofs::WordLaws::first_row, crate::proofs::WordLaws::first_queues, crate::proofs::WordLaws::first_fits, crate::proofs::DrawnRowLaws::row_drawn))]
+pub fn drawn_body(table: &[u32], allowance: u32, previous: u16, row: &mut [u32; ROW]) -> Body
+    requires { Row table.now 0 × (queues_fit table.now ≡ true) }
+    ensures body { result
+        ≡ body_of previous (transactions_in (drawn allowance (queues_of table.now))) }
+    ensures row { row.new ++ drop row_length table.now
+        ≡ drawn_table (drawn allowance (queues_of table.now)) table.now }
 {
-    let mut row = [0u32; ROW];
     row.copy_from_slice(&table[..ROW]);
-    row
+    draw(row, allowance, previous)
 }
 
-/// The body that a draw makes, with nothing gone from its queue: the draw is made on a copy of row 0.
-#[tactic(auto, using(crate::proofs::WordLaws::first_row, crate::proofs::WordLaws::first_queues, crate::proofs::WordLaws::first_fits))]
-pub fn drawn_body(table: &[u32], allowance: u32, previous: u16) -> Body
-    requires { Row table.now 0 × (queues_fit table.now ≡ true) }
-    ensures { result ≡ body_of previous (transactions_in (drawn allowance (queues_of table.now))) }
+/// Puts `row` in the place of row 0.
+pub fn put_first_row(table: &mut [u32], row: &[u32; ROW])
+    requires { Row table.old 0 }
+    ensures { table.new ≡ row.now ++ drop row_length table.old }
 {
-    draw(&mut first_row(table), allowance, previous)
+    table[..ROW].copy_from_slice(row);
 }

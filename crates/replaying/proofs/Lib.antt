@@ -3,4 +3,4 @@ pub mod RunsLaws
 pub mod ListLaws
 pub mod ByteLaws
 pub mod ReplayLaws
-pub mod Answered
+pub mod OpenedLaws

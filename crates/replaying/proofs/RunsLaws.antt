@@ -44,7 +44,12 @@ pub answers_more : (at : ℕ → library.Words) (l : List Entry) (i : ℕ) (d : 
 answers_more at l i d h = ap (answers_of at) (take_more l i d h) ∙ answers_last at (take i l) (get_or l i d)
 
 -- one call more, its words and its answer
-pub run_more : (at : ℕ → library.Words) (l : List Entry) (i : ℕ) (e : Entry) (es : List Keeper) (x d : Keeper) (answers : List ℕ) (r : ℕ) → i < length l → e ≡ get_or l i e → e.who < length es → i < length answers → Stand es (after_run at (take i l)) → take i answers ≡ answers_of at (take i l) → words_of x ≡ after_call (words_of (get_or es e.who d)) (told e.call) → r ≡ answer_of e.call (comes_of (words_of (get_or es e.who d)) (told e.call)) → Stand (set es e.who x) (after_run at (take (i + 1) l)) × (take (i + 1) (set answers i r) ≡ answers_of at (take (i + 1) l))
+pub run_more : (at : ℕ → library.Words) (l : List Entry) (i : ℕ) (e : Entry) (es : List Keeper) (x d : Keeper) (answers : List ℕ) (r : ℕ)
+    → i < length l → e ≡ get_or l i e → e.who < length es → i < length answers
+    → Stand es (after_run at (take i l)) → take i answers ≡ answers_of at (take i l)
+    → words_of x ≡ after_call (words_of (get_or es e.who d)) (told e.call)
+    → r ≡ answer_of e.call (comes_of (words_of (get_or es e.who d)) (told e.call))
+    → Stand (set es e.who x) (after_run at (take (i + 1) l)) × (take (i + 1) (set answers i r) ≡ answers_of at (take (i + 1) l))
 run_more at l i e es x d answers r h q w k s a hw hr =
     let m = rw (sym q) at (after_more at l i e h) in
     let n = rw (sym q) at (answers_more at l i e h) in

@@ -1,6 +1,7 @@
 //! Why a list is not made again.
 
-ghost use Rattle.std.specs.Prelude.{◌≡◌, [], ◌∷◌, ◌++◌, OnOk};
+ghost use Rattle.std.specs.Prelude.{◌≡◌, [], ◌∷◌, ◌++◌, OnOk, IfErr};
+ghost use Rattle.replaying.specs.declared.failure.Failure.TheVariants.{Memory};
 
 use std::alloc::AllocError;
 use std::fmt::{Display, Formatter};
@@ -31,6 +32,11 @@ impl Display for Failure {
 }
 
 impl From<AllocError> for Failure {
+    ghost use Rattle.std.specs.Prelude.{◌≡◌};
+    ghost use Rattle.replaying.specs.declared.failure.Failure.TheVariants.{Memory};
+
+    ghost from_gives = { λ error failure. failure ≡ Memory };
+
     fn from(_: AllocError) -> Failure {
         Failure::Memory
     }
@@ -49,7 +55,8 @@ impl From<io::Error> for Failure {
 
 /// Puts one more behind the others.
 pub fn push<T: Drop>(all: &mut Vec<T>, one: T) -> Result<(), Failure>
-    ensures { OnOk result (all.new.items ≡ all.old.items ++ one ∷ []) }
+    ensures pushed { OnOk result (all.new.items ≡ all.old.items ++ one ∷ []) }
+    ensures failed { IfErr result (λ f. f ≡ Memory) }
 {
     match all.push(one) {
         Ok(()) => Ok(()),

@@ -1,6 +1,6 @@
 //! A run's calls read from a list, and made again by the calls of hosts that own their words.
 //!
-//! A list has what all members open with, and then call after call. Its words are read (specs/Lists), the members opened and the calls made by `making::run`, whose contract says that chains never fork. What is told are the answers and the words that are left (specs/Replays). docs/PLANT.md, "The calls of a run, made again".
+//! A list has what all members open with, and then call after call. Its words are read (specs/Lists), the members opened and the calls made by `making::run`, whose contract says that chains never fork where the calls are a run. What is told are the answers and the words that are left (specs/Replays). docs/PLANT.md, "The calls of a run, made again".
 #![tactic(auto)]
 
 pub mod calls;

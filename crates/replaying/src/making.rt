@@ -1,4 +1,4 @@
-//! A list of calls made on several members' words by the calls of hosts that own them: it answers and leaves what the list of public calls does, so their chains never fork over it.
+//! A list of calls made on several members' words by the calls of hosts that own them: it answers and leaves what the list of public calls does, so their chains never fork over it where it is a run.
 //!
 //! The functions that hosts link hand their words to these calls, each in one line under the same clauses. The claim is the contract of `run`; docs/RULES.md, "What is claimed of runs".
 

@@ -1,5 +1,5 @@
 -- Laws of what is cached beside a state: one that is not well formed, and one after a commit.
-use Rattle.std.proofs.Common.{◌≡◌, refl, sym, ◌∙◌, Bool, true, false, List, ◌≢◌, ℕ, arith}
+use Rattle.std.proofs.Common.{◌≡◌, refl, sym, ◌∙◌, Bool, true, false, List, ℕ, arith}
 use Rattle.base.proofs.Words.{false≢true}
 use Rattle.state.specs.declared.State.{State}
 use Rattle.state.specs.WellFormed.{well_formed}
@@ -7,10 +7,9 @@ use Rattle.state.proofs.FormedLaws.{formed}
 use Rattle.state.specs.Cached.{Cached}
 use Rattle.open.specs.Open.{closed_state}
 use Rattle.commit.specs.Commit.{commit_state, commit_table_after}
-use Rattle.engine.specs.Calls.{commit}
-use Rattle.engine.specs.Engine.{Engine, refusal_for}
+use Rattle.engine.specs.Engine.{Engine}
 use Rattle.engine.specs.Steps.{SetInRange}
-use Rattle.engine.proofs.CachedLaws.{formed-commit, cached-refused}
+use Rattle.engine.proofs.CachedLaws.{formed-commit}
 
 -- beside a state that is not well formed nothing need be cached
 pub cached-unformed : {s : State} {t : List ℕ} {b : Bool} (cache : List ℕ) → b ≡ well_formed s t → b ≡ false → Cached s t b cache
@@ -32,7 +31,3 @@ module _ (e : Engine) {s : State} {u : List ℕ} (q : s ≡ commit_state e.state
   -- it leaves a well-formed state so
   pub committed-formed : SetInRange e → b ≡ well_formed e.state e.table → b ≡ well_formed s u
   committed-formed low w = rw (q, d) (w ∙ sym (formed-commit e low))
-
-  -- a refused one changes nothing: what was cached stays
-  pub cached_uncommitted : refusal_for e commit ≢ 0 → {cache : List ℕ} → Cached e.state e.table b cache → Cached s u b cache
-  cached_uncommitted r k = rw (q, d) (cached-refused e commit r k)

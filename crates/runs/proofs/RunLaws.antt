@@ -1,7 +1,7 @@
 use Rattle.std.proofs.Common.{◌≡◌, ◌<◌, ◌+◌, ℕ, Bool, true, false, eqb, List, [], ◌∷◌, ◌++◌, take, get_or, set, length, refl, sym, ap, ◌∙◌, cond, subst₂, ◌⊎◌, eqb-true}
 use Rattle.std.proofs.lemmas.List.{take_more, get_or-set_other, length-set}
 use Rattle.std.proofs.lemmas.Grind.{get_or-set_at}
-use borrow.Author.Tests.{eqb-false}
+use Rattle.base.proofs.Words.{eqb-false}
 use Rattle.runs.specs.declared.Engine.{Engine}
 use Rattle.runs.specs.declared.Entry.{Entry}
 use Rattle.engine.specs.Engine as engine

@@ -15,7 +15,6 @@ ghost use Rattle.spans.specs.Rows.{place_held, row_held, block_held, HeldFits, P
 use chain_committees::cache;
 use chain_committees::changes::links;
 use chain_committees::walk::Walk;
-use committee::leader;
 use store::record;
 use terms::{Member, Proposal, Round};
 use words::bodies::lengths::HELD;
@@ -81,11 +80,8 @@ pub(crate) fn start(walk: &mut Walk, cache: &[u64], before: u32) -> Member
     ensures start { let c = walk.old.chain in
         result.0 ≡ start_at c.settings.now c.table.now before }
 {
-    let chain = walk.chain;
-    let round = store::block_round(chain.table, before + 1);
-    if cache::is_cached(cache, chain.settings.ceiling, round) {
-        let committee = cache::committee(cache, chain, round);
-        return leader::leader(&committee.weights, round);
+    if let Some(start) = cache::start_of(cache, walk.chain, before) {
+        return start;
     }
     walk.begin(before + 1);
     walk.start(before)
@@ -106,7 +102,7 @@ pub(crate) fn put(walk: &Walk, start: Member, before: u32, list: &mut [u32], at:
     let end = ceiling.0 * 16 + 16;
     let block = before + 1;
     let mut to = at;
-    let mut place = walk.head[block as usize];
+    let mut place = walk.head[block as usize] as u32;
     while place < end {
         to = put_row(list, to, walk.chain.table, block, start, place);
         place = links::run_end(walk.next, place / 16 * 16 + 16, place);
@@ -124,10 +120,10 @@ pub(crate) fn count(walk: &Walk, before: u32) -> u32
     let ceiling = walk.chain.settings.ceiling;
     let end = ceiling.0 * 16 + 16;
     let mut count = 0;
-    let mut place = walk.head[before as usize + 1];
+    let mut place = walk.head[before as usize + 1] as u32;
     while place < end {
         count += 1;
-        place = walk.next[place as usize];
+        place = walk.next[place as usize] as u32;
     }
     count
 }

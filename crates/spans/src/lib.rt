@@ -1,7 +1,7 @@
 //! What blocks in a row hold, listed by one walk.
 //!
 //! The certificates of so many blocks after the first known, each block's in its order, as words in a lent list, with the endorsers that each was stored with (specs/Spans, specs/Listed). State and table stay as they are. Read in pieces they are the same, and what was read stays (src/theorems). docs/RULES.md, "Reads" and "Order inside a block".
-//! Its cost is that of one walk over the blocks for their starts, of one step for each certificate in these blocks, and of one row looked at for each round in which a block has some.
+//! Its cost is that of one pass over the marks of all that is held, of two steps for each certificate in these blocks, and of one row looked at for each round in which a block has some. Where a block's start is not told by a cached committee, one walk goes on over the blocks before it.
 #![tactic(auto)]
 
 pub mod block;

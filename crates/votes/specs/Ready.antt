@@ -26,7 +26,7 @@ pub record AnchorLed (s : State) (t : List ℕ) (a : ℕ) (w : Committee) : Type
   pub committee : w.weights ≡ committee_on s t s.round
   pub margin : w.margin ≡ s.settings.margin
 
--- the state passes the checks of time, l has its leaders by round, and w is the committee of its round
+-- the round is above 1, l has the leaders by round, and w is the committee of the round
 pub record AnchorReady (s : State) (t l : List ℕ) (w : Committee) : Type 0 where
   pub leaders : l ≡ leaders_for s t
   pub anchor : AnchorLed s t (get_or l (s.round - 1) 0) w

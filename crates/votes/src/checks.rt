@@ -37,7 +37,7 @@ pub fn check_time(view: &View) -> Result<(), Refusal>
 }
 
 /// Puts the leaders by round into `leaders`, which has 16s, and gives the committee of the present round: what the votes of a state that passes those of time are weighed by.
-pub fn fill_leaders(state: &State, table: &[u32], leaders: &mut [u32; 1025]) -> Committee
+pub fn fill_leaders(state: &State, table: &[u32], leaders: &mut [u8; 1025]) -> Committee
     requires { LeadersWanted state.now table.now leaders.old }
     ensures { AnchorReady state.now table.now leaders.new result }
 {
@@ -47,9 +47,9 @@ pub fn fill_leaders(state: &State, table: &[u32], leaders: &mut [u32; 1025]) -> 
     leaders::fill_leaders(chain, last, Round(round.0 - 1), leaders)
 }
 
-// The checks of the votes, 21 and 22, where `anchor` is the leader of the round before and `committee` that of the present one.
+/// The checks of the votes, 21 and 22, where `anchor` is the leader of the round before, 16 for none, and `committee` that of the present round.
 #[tactic(auto, using(crate::proofs::CheckLaws::no_anchor, crate::proofs::CheckLaws::votes_short, crate::proofs::CheckLaws::votes_pass, crate::proofs::CheckLaws::votes_ready))]
-fn check_anchor(
+pub fn check_anchor(
     state: &State,
     table: &[u32],
     anchor: Member,
@@ -74,14 +74,14 @@ fn check_anchor(
 pub fn check_votes(
     state: &State,
     table: &[u32],
-    leaders: &[u32; 1025],
+    leaders: &[u8; 1025],
     committee: &Committee,
 ) -> Result<(), Refusal>
     requires { AnchorReady state.now table.now leaders.now committee.now }
     ensures { refusal_in result ≡ refusal (vote_checks state.now table.now) }
 {
     let round = state.round;
-    let anchor = Member(leaders[round.0 as usize - 1]);
+    let anchor = Member(leaders[round.0 as usize - 1] as u32);
     check_anchor(state, table, anchor, committee)
 }
 
@@ -111,7 +111,7 @@ pub fn check_early(view: &View) -> Result<bool, Refusal>
 
 /// The checks of a well-formed state: 19, 20, 8, 21, 22. Where it passes, `leaders` has the leaders by round, 16 for none.
 #[tactic(auto, using(crate::proofs::CheckLaws::refused_in_time, crate::proofs::CheckLaws::refused_by_votes))]
-pub fn check(view: &View, leaders: &mut [u32; 1025]) -> Result<(), Refusal>
+pub fn check(view: &View, leaders: &mut [u8; 1025]) -> Result<(), Refusal>
     ensures refusal { let s = view.now.state.now in
         refusal_in result ≡ refusal (checks s.settings s.own.0 (shown view.now) commit) }
     ensures leaders { OnOk result (leaders.new
@@ -119,6 +119,7 @@ pub fn check(view: &View, leaders: &mut [u32; 1025]) -> Result<(), Refusal>
 {
     check_time(view)?;
     let told = check_early(view)?;
+    // `fill_leaders` writes only the rounds above the newest block; the others have nobody, and what a caller hands in, zeros, would say member 0.
     *leaders = [16; 1025];
     let committee = fill_leaders(view.state, view.table, leaders);
     if told {

@@ -64,7 +64,7 @@ fn apply_from(table: &[u32], from: u32, place: u32, weights: &mut [Weight; 16])
 #[tactic(auto, using(crate::proofs::RunLaws::run_stop, crate::proofs::RunLaws::end_stop, crate::proofs::RunLaws::run_left, crate::proofs::RunLaws::end_left, crate::proofs::RunLaws::run_all, crate::proofs::RunLaws::end_all, crate::proofs::BoundLaws::from_total))]
 fn apply_run(
     table: &[u32],
-    next: &[u32],
+    next: &[u16],
     from: u32,
     end: u32,
     place: u32,
@@ -80,7 +80,7 @@ fn apply_run(
             return q;
         }
         apply_from(table, from, q, weights);
-        q = next[q as usize];
+        q = next[q as usize] as u32;
     }
     q
 }
@@ -89,7 +89,7 @@ fn apply_run(
 #[tactic(auto, using(crate::proofs::BoundLaws::run_total), unfolding(crate::specs::LinkRuns::row_over))]
 fn apply_row(
     table: &[u32],
-    next: &[u32],
+    next: &[u16],
     start: Member,
     place: u32,
     weights: &mut [Weight; 16],
@@ -110,8 +110,8 @@ fn apply_row(
 #[tactic(auto, using(crate::proofs::BoundLaws::rows_total))]
 pub(crate) fn apply_block(
     table: &[u32],
-    head: &[u32; 512],
-    next: &[u32],
+    head: &[u16; 512],
+    next: &[u16],
     block: u32,
     start: Member,
     ceiling: Round,
@@ -121,7 +121,7 @@ pub(crate) fn apply_block(
     ensures { weights.new ≡ rows_over (place_change table.now block) start.0 ceiling weights.old }
 {
     let end = ceiling.0 * 16 + 16;
-    let mut place = head[block as usize];
+    let mut place = head[block as usize] as u32;
     while place < end {
         place = apply_row(table, next, start, place, weights);
     }

@@ -25,7 +25,7 @@ pub fn are_few(ceiling: Round) -> bool
 }
 
 // `place` becomes the first one of `block`.
-fn link(head: &mut [u32; 512], next: &mut [u32], block: u32, place: u32)
+fn link(head: &mut [u16; 512], next: &mut [u16], block: u32, place: u16)
     requires { (block < 512) × (place < length next.old) }
     ensures { (head.new ≡ set head.old block place)
         × (next.new ≡ set next.old place (get_or head.old block 0)) }
@@ -35,7 +35,7 @@ fn link(head: &mut [u32; 512], next: &mut [u32], block: u32, place: u32)
 }
 
 // A place, if it is held and in a block.
-fn link_place(table: &[u32], head: &mut [u32; 512], next: &mut [u32], author: Member, round: Round)
+fn link_place(table: &[u32], head: &mut [u16; 512], next: &mut [u16], author: Member, round: Round)
     requires { RowRoom table.now next.old round × (author.0 < 16) }
     ensures { (a e : ℕ) → a ≡ round * 16 + author.0 → Links table.now (a + 1) e head.old next.old
         → Links table.now a e head.new next.new }
@@ -45,12 +45,12 @@ fn link_place(table: &[u32], head: &mut [u32; 512], next: &mut [u32], author: Me
     }
     let block = store::record::mark(table, author, round);
     if block < 512 {
-        link(head, next, block, round.0 * 16 + author.0);
+        link(head, next, block, (round.0 * 16 + author.0) as u16);
     }
 }
 
 // The places of a row.
-fn link_row(table: &[u32], head: &mut [u32; 512], next: &mut [u32], round: Round)
+fn link_row(table: &[u32], head: &mut [u16; 512], next: &mut [u16], round: Round)
     requires { RowRoom table.now next.old round }
     ensures { (a e : ℕ) → a ≡ round * 16 → Links table.now (a + 16) e head.old next.old
         → Links table.now a e head.new next.new }
@@ -65,7 +65,7 @@ fn link_row(table: &[u32], head: &mut [u32; 512], next: &mut [u32], round: Round
 
 /// Links the places of the rounds 1 to `ceiling`, where none is linked yet: `head` has the end at each block.
 /// Both lists are written; `next` has a word for each place, and those of places in no block stay.
-pub(crate) fn link_rows(table: &[u32], head: &mut [u32; 512], next: &mut [u32], ceiling: Round)
+pub(crate) fn link_rows(table: &[u32], head: &mut [u16; 512], next: &mut [u16], ceiling: Round)
     requires { RowsTo table.now ceiling
         × Links table.now (ceiling * 16 + 16) (ceiling * 16 + 16) head.old next.old }
     ensures { AllLinked table.now ceiling head.new next.new }
@@ -77,19 +77,19 @@ pub(crate) fn link_rows(table: &[u32], head: &mut [u32; 512], next: &mut [u32], 
 }
 
 /// The places of each block of a table, up to the ceiling: gives the first place of each block, and writes the others into `next`, which has a word for each place.
-pub fn linked(table: &[u32], next: &mut [u32], ceiling: Round) -> [u32; 512]
+pub fn linked(table: &[u32], next: &mut [u16], ceiling: Round) -> [u16; 512]
     requires rows { RowsTo table.now ceiling }
     requires places { ceiling * 16 + 16 ≤ length next.old }
     ensures { AllLinked table.now ceiling result next.new }
 {
-    let mut head = [ceiling.0 * 16 + 16; 512];
+    let mut head = [(ceiling.0 * 16 + 16) as u16; 512];
     link_rows(table, &mut head, next, ceiling);
     head
 }
 
 /// The first place from `end` on, going by `next` from `place` of the same row. No more than sixteen steps are made.
 #[tactic(auto, using(crate::proofs::RunLaws::end_stop, crate::proofs::RunLaws::end_left, crate::proofs::RunLaws::end_all))]
-pub fn run_end(next: &[u32], end: u32, place: u32) -> u32
+pub fn run_end(next: &[u16], end: u32, place: u32) -> u32
     requires { end ≤ length next.now }
     ensures { result ≡ run_end next.now end 16 place }
 {
@@ -98,7 +98,7 @@ pub fn run_end(next: &[u32], end: u32, place: u32) -> u32
         if end <= q {
             return q;
         }
-        q = next[q as usize];
+        q = next[q as usize] as u32;
     }
     q
 }

@@ -15,7 +15,7 @@ pub returns-then-round-now : goal.returns-then-round-now
 returns-then-round-now c = let p = c.requires in
     let a = p.0.anchor in
     let e = rw (c.round.view_is, c.now.view_is) at c.if-round-now.true in
-    rw (p.0.its_votes, c.bound.ensures, a.leader, a.committee, a.margin) (sym (now-critical p.0.passes p.1.0 p.1.1 e _ (rw (a.leader, a.committee, e) at c.vote_of-vote.ensures)))
+    rw (p.0.its_votes, p.0.its_bound, a.leader, a.committee, a.margin) (sym (now-critical p.0.passes p.1.0 p.1.1 e _ (rw (a.leader, a.committee, e) at c.vote_of-vote.ensures)))
 
 pub returns-else-round-now : goal.returns-else-round-now
 returns-else-round-now c = let p = c.requires in rw p.0.anchor.leader (sym (before-critical p.0.passes p.1.0 p.1.1 (rw (c.round.view_is, c.now.view_is) at c.if-round-now.false)))

@@ -1,4 +1,4 @@
-use denote.Param.{number}
+use Rattle.base.proofs.Words.{number}
 use Rattle.prospects.specs.contracts.list_by.{WHOLE-type}
 use Rattle.prospects.proofs.Stepping.{Stepping}
 use Rattle.prospects.proofs.list_by.Given as goal

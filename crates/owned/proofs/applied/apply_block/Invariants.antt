@@ -10,4 +10,4 @@ pub record RowsDone (t : List ℕ) (b a r : ℕ) (w₀ w : List Weight) (q : ℕ
   pub weights : w ≡ rows_over (place_change t b) a q w₀
 
 abbrev pub invariant-loop-q : goal.invariant-loop-q
-invariant-loop-q l = RowsDone l.table l.block l.start.0 l.fn.top l.initial.weights l.weights l.q
+invariant-loop-q l = RowsDone l.table l.fn.span.block l.fn.span.start.0 l.fn.span.top l.initial.weights l.weights l.q

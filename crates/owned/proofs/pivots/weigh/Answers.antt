@@ -1,9 +1,10 @@
-use Rattle.owned.proofs.PivotLaws.{passes, led}
+use Rattle.owned.proofs.PivotLaws.{led}
 use Rattle.owned.proofs.pivots.weigh.Goals as goal
 
-pub new-requires : goal.new-requires
-new-requires c =
-    let v = c.args.view.now in
-    let x = c.in_ok-check.ensures in
-    let k = c.committee-committee.ensures in
-    record { passes = passes v.state.now v.table.now v.formed x.refusal; anchor = rw c.round.view_is (led v.state.now v.table.now v.formed x.refusal x.leaders k.weights k.margin) }
+pub check_anchor-requires : goal.check_anchor-requires
+check_anchor-requires c = let k = c.committee-committee.ensures in
+    led c.args.view.now.formed c.in_ok-check_time.ensures (rw c.round.view_is at c.committee.ensures.weights) (rw c.round.view_is at c.leader-leader.ensures) k.weights k.margin
+
+pub new-requires-clause-anchor : goal.new-requires-clause-anchor
+new-requires-clause-anchor c = let k = c.committee-committee.ensures in
+    led c.args.view.now.formed c.in_ok-check_time.ensures (rw c.round.view_is at c.committee.ensures.weights) (rw c.round.view_is at c.leader-leader.ensures) k.weights k.margin

@@ -13,16 +13,16 @@ view-requires c = c.requires.0
 
 pub take_leaders-requires : goal.take_leaders-requires
 take_leaders-requires c = let x = c.in_ok-check.ensures in
-    rw c.round.view_is (anchors_ready (passed (c.view.ensures.0, c.view.ensures.1, sym c.requires.0.form) x.refusal x.leaders) c.last_round-last.ensures)
+    rw c.round.view_is (anchors_ready (passed (c.view.ensures.state, c.view.ensures.table, sym c.requires.0.form) x.refusal x.leaders) c.last_round-last.ensures)
 
 pub list_whole-put-requires-clause-ready : goal.list_whole-put-requires-clause-ready
 list_whole-put-requires-clause-ready c = let x = c.in_ok-check.ensures in
-    rw c.round.view_is (steps_ready _ (passed (c.view.ensures.0, c.view.ensures.1, sym c.requires.0.form) x.refusal x.leaders) c.last_round-last.ensures (rw c.round.view_is at c.take_leaders.ensures) c.take_leaders.auto.leaders)
+    rw c.round.view_is (steps_ready _ (passed (c.view.ensures.state, c.view.ensures.table, sym c.requires.0.form) x.refusal x.leaders) c.last_round-last.ensures (rw c.round.view_is at c.take_leaders.ensures) c.take_leaders.auto.leaders)
 
 pub list_whole-put-requires-clause-whole : goal.list_whole-put-requires-clause-whole
 list_whole-put-requires-clause-whole c =
     let x = c.in_ok-check.ensures in
-    let p = passed (c.view.ensures.0, c.view.ensures.1, sym c.requires.0.form) x.refusal x.leaders in
+    let p = passed (c.view.ensures.state, c.view.ensures.table, sym c.requires.0.form) x.refusal x.leaders in
     let w = anchors_ready p c.last_round-last.ensures in
     let s = c.args.state.now in
     let t = c.args.table.now in
@@ -34,12 +34,12 @@ list_whole-put-requires-clause-whole c =
 
 pub overflow_cast-result : goal.overflow_cast-result
 overflow_cast-result c = let x = c.in_ok-check.ensures in
-    omega (arith, number_fits _ (passed (c.view.ensures.0, c.view.ensures.1, sym c.requires.0.form) x.refusal x.leaders) c.last_round-last.ensures (rw c.round.view_is at c.take_leaders.ensures) (rw c.round.view_is at c.list_whole-put.ensures))
+    omega (arith, number_fits _ (passed (c.view.ensures.state, c.view.ensures.table, sym c.requires.0.form) x.refusal x.leaders) c.last_round-last.ensures (rw c.round.view_is at c.take_leaders.ensures) (rw c.round.view_is at c.list_whole-put.ensures))
 
 pub returns-clause-value : goal.returns-clause-value
 returns-clause-value c = let x = c.in_ok-check.ensures in
-    number_told _ (passed (c.view.ensures.0, c.view.ensures.1, sym c.requires.0.form) x.refusal x.leaders) c.last_round-last.ensures (rw c.round.view_is at c.take_leaders.ensures) (rw c.round.view_is at c.list_whole-put.ensures)
+    number_told _ (passed (c.view.ensures.state, c.view.ensures.table, sym c.requires.0.form) x.refusal x.leaders) c.last_round-last.ensures (rw c.round.view_is at c.take_leaders.ensures) (rw c.round.view_is at c.list_whole-put.ensures)
 
 pub returns-clause-list : goal.returns-clause-list
 returns-clause-list c = let x = c.in_ok-check.ensures in
-    list_told _ (passed (c.view.ensures.0, c.view.ensures.1, sym c.requires.0.form) x.refusal x.leaders) c.last_round-last.ensures (rw c.round.view_is at c.take_leaders.ensures) (rw c.round.view_is at c.list_whole-put.ensures)
+    list_told _ (passed (c.view.ensures.state, c.view.ensures.table, sym c.requires.0.form) x.refusal x.leaders) c.last_round-last.ensures (rw c.round.view_is at c.take_leaders.ensures) (rw c.round.view_is at c.list_whole-put.ensures)

@@ -6,13 +6,13 @@ use Rattle.committee.specs.declared.effects.Effect.{Effect}
 use Rattle.engine.specs.Calls.{effect, aside}
 use Rattle.reads.specs.Reads.{effect_refusal}
 use Rattle.hosting.proofs.SettledLaws.{shown}
-use Rattle.owned.proofs.Answered.{result_unread}
+use Rattle.hosting.proofs.Answered.{result_unread}
 use Rattle.owned.proofs.views.bond_effect.Goals as goal
 
 pub returns-in_err-effect : goal.returns-in_err-effect
 unfolding effect_refusal
 returns-in_err-effect c = let s = c.in-Some.ensures in
-    let x = rw (c.view.ensures.0, c.view.ensures.1, s.1) at c.in_err-effect.ensures in
+    let x = rw (c.view.ensures.state, c.view.ensures.table, s.1) at c.in_err-effect.ensures in
     let a = c.args in
     let n : refusal_in c.from_residual.result ≡ number_of c.in_err-effect.field-0.0 = search rules in
     rw n (shown _ _ _ (effect (record { 0 = a.member }) a.round a.amount) {A = Effect} (Err c.in_err-effect.field-0.0) [] s.0 c.if-out-lt-EFFECT.false x.refusal refl tt)

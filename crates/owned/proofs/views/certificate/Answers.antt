@@ -10,7 +10,7 @@ use Rattle.owned.proofs.views.certificate.Goals as goal
 pub returns-in_err-held : goal.returns-in_err-held
 unfolding certificate_refusal
 returns-in_err-held c = let s = c.in-Some.ensures in
-    let x = rw (c.view.ensures.0, c.view.ensures.1, s.1) at c.in_err-held.ensures in
+    let x = rw (c.view.ensures.state, c.view.ensures.table, s.1) at c.in_err-held.ensures in
     let a = c.args in
     let n : refusal_in c.from_residual.result ≡ number_of c.in_err-held.field-0.0 = search rules in
     rw n (shown _ _ _ (certificate (record { 0 = a.author }) a.round) {A = Held} (Err c.in_err-held.field-0.0) [] s.0 c.if-out-lt-HELD.false x.refusal refl tt)

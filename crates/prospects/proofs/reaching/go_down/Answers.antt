@@ -9,7 +9,7 @@ pub returns-then-is_subset : goal.returns-then-is_subset
 returns-then-is_subset g c = walk_reached c.requires.earlier c.loop-r.invariant (sym c.is_subset.ensures ∙ c.if-is_subset.true)
 
 pub returns-then-new-eq0 : goal.returns-then-new-eq0
-returns-then-new-eq0 g c = walk_none c.requires.earlier c.loop-r.invariant c.new_of-new.ensures (rw (ne_eqb g.row.WHOLE 0 c.if-this-ne0.true) refl) c.if-new-eq0.true
+returns-then-new-eq0 g c = walk_none c.requires.earlier c.loop-r.invariant c.new_of-new.ensures (rw (ne_eqb g.row.WHOLE 0 (omega arith)) refl) (omega arith)
 
 pub loop-r-preserved : goal.loop-r-preserved
 loop-r-preserved g c = rw (c.union.ensures, c.step_down-next.ensures) (walk_step (omega arith) c.requires.round c.loop-r.invariant c.new_of-new.ensures)

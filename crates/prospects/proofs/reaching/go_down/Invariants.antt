@@ -1,4 +1,4 @@
-use denote.Param.{number}
+use Rattle.base.proofs.Words.{number}
 use Rattle.prospects.specs.contracts.reaching.go_down.{WHOLE-type}
 use Rattle.prospects.proofs.WalkLaws.{Walking}
 use Rattle.prospects.proofs.reaching.go_down.Given as goal

@@ -12,4 +12,4 @@ loop-rest-preserved c =
     let l = c.loop-rest.all.items in
     let one = c.in_ok-one.one in
     let o = c.in_ok-one.ensures in
-    rw (c.in_ok-push.ensures {u = tt}) (entries_more c.args.words.now l one c.loop-rest.rest.now c.in_ok-one.behind.now h.0 o.words, all_more (λ (e : Entry). e.who < c.args.members) l one h.1 o.member, all_more (λ (e : Entry). Typed (told e.call)) l one h.2 o.typed, all_more (λ (e : Entry). CallWhole e.call) l one h.3 o.whole)
+    rw c.in_ok-push.ensures.pushed (entries_more c.args.words.now l one c.loop-rest.rest.now c.in_ok-one.behind.now h.0 o.words, all_more (λ (e : Entry). e.who < c.args.members) l one h.1 o.member, all_more (λ (e : Entry). Typed (told e.call)) l one h.2 o.typed, all_more (λ (e : Entry). CallWhole e.call) l one h.3 o.whole)
