@@ -139,9 +139,9 @@ uint32_t forgelilac_format_3(void);
 
 /* Bytes of stack that serve every call and every function below but owner's calls, which have
  * FORGELILAC_OWNED_STACK_BYTES, on x86-64; examples/stack.c measures what the calls use. Preview
- * uses about 94 KB, every other call that may walk over the blocks 89 to 92 KB, but a port read about
- * 77 KB, the others less than 1 KB; a guest's form little more than the host's call. */
-#define FORGELILAC_STACK_BYTES 98304
+ * uses about 46 KB, every other call that may walk over the blocks 39 to 44 KB, but a port read about
+ * 36 KB, the others less than 1 KB; a guest's form little more than the host's call. */
+#define FORGELILAC_STACK_BYTES 49152
 
 /* ---- words of a state */
 
@@ -713,9 +713,9 @@ uint32_t forgelilac_guest_port_write(uint32_t caller,
  * use them.
  *
  * The premise of each: the words are owned. Words are owned from an accepted forgelilac_owned_resume on, as
- * long as state, table and kept committees are as that, the last owner's call or the last other call but
- * open, load and commit on this member left them, and nobody else has written any of them: no other code of
- * the host, no guest, no device. Every owner's call keeps them owned, refused or not. Copied together, word for word and in their
+ * long as state, table and kept committees are, word for word, as the last call on this member left them, be it
+ * that resume, an owner's call, or another call but open, load, commit and a guest's commit, and nobody else has
+ * written any of them: no other code of the host, no guest, no device. Every owner's call keeps them owned, refused or not. Copied together, word for word and in their
  * whole lengths, they are owned where they are now.
  *
  * Where the words are not owned nothing is promised, memory safety included: an owner's call may then
@@ -728,23 +728,23 @@ uint32_t forgelilac_guest_port_write(uint32_t caller,
 
 /* The kept committees of a state of this ceiling, in words of 64 bits, aligned as uint64_t is. */
 #define FORGELILAC_KEPT_WORDS(ceiling) (16u * (ceiling) + 17u)
-/* Bytes of stack that serve every owner's call on x86-64: resume uses about 93 KB, block rows and a listing of the
- * chain about 89 KB, a port read about 77 KB, each other one less than 15 KB. examples/stack.c measures it. */
-#define FORGELILAC_OWNED_STACK_BYTES 98304
+/* Bytes of stack that serve every owner's call on x86-64: resume, block rows and a listing of the chain use about
+ * 41 KB, a port read about 36 KB, each other one 11 KB or less. examples/stack.c measures it. */
+#define FORGELILAC_OWNED_STACK_BYTES 49152
 
 /* Tests the words once and fills the kept committees, which need not be set before: from here on the
  * words are owned. 1 where words of the state cannot be read, where the state is not well formed with its
  * table, where a held certificate or the proposal names one that is not held, or one in a block names one
  * in none, and where the kept committees are too short: then no word is written, and the words are not
  * owned. State and table are only read. It makes the test that one call above makes, a look at whom each
- * certificate names, and one walk for the committees. On owned words it answers 0 at any time, so made now
- * and then it is a check of their bits. */
+ * certificate names, and one walk for the committees. On owned words with a stretch long enough it answers 0 at
+ * any time, so made now and then it is a check of their bits. */
 FORGELILAC_CHECKED FORGELILAC_READS(1, 2) FORGELILAC_READS(3, 4) FORGELILAC_WRITES(5, 6)
 uint32_t forgelilac_owned_resume(const uint32_t *state, size_t state_words,
                                  const uint32_t *table, size_t table_words,
                                  uint64_t *kept, size_t kept_words);
 
-/* Calls, each as that without owned_. Only commit writes the kept committees. */
+/* Calls, each as that without owned_. Only commit writes the kept committees, and a refused one leaves them. */
 FORGELILAC_CHECKED FORGELILAC_CHANGES(1, 2) FORGELILAC_READS(3, 4) FORGELILAC_READS(5, 6) FORGELILAC_READS(7, 8)
 uint32_t forgelilac_owned_propose(uint32_t *state, size_t state_words,
                                   const uint32_t *table, size_t table_words,

@@ -5,20 +5,24 @@
 #   gate       .ci/run: every proof, every edit that must be refused, every program as two compilers build it
 #   archive    the library for hosts, made by `rt lib` in crates/host (a gate takes it away)
 #   runner     the runner, made by `rt run` in crates/runner
+#   replayer   the program that makes a plant's calls again, made by `rt run` in crates/replayer
 #   reference  the reference and its second writing in Python, and the runner against both
 #   mutants    wrong references, which the tests must tell
 #   streams    the runner against the reference: shuffled streams, damaged ones, input in pieces, members of one run
 #   pages      what the pages claim, name and show, and every example on them; the drawings
 #   packages   every Cargo package: lints, tests, and formatting where it has a rustfmt.toml
+#   tool       the tool, its registers and its page
+#   plant      plants of many members, their calls by the replayer, and eighteen wrong engines that they must tell
 #   hosts      all that hosts link: header, examples, installation, package, and millions of calls against the reference
 #
-# `fast` is all but gate, archive, runner and mutants, in small numbers: some five minutes. It takes the archive and
-# the runner that are there, and says which steps go without. Of named steps each is run in whole.
+# `fast` is reference, streams, pages, packages and hosts, in small numbers: some five minutes. It takes the archive
+# and the runner that are there, and says which steps go without. Of named steps each is run in whole.
 set -u
 cd "$(dirname "$0")/.." || exit 2
 top=$(pwd)
 archive=$top/crates/host/out/libhost.a
 runner=$top/crates/runner/out/runner
+replayer=$top/crates/replayer/out/replayer
 logs=$top/target/check
 mkdir -p "$logs"
 for tool in cargo gcc python3; do
@@ -28,6 +32,7 @@ done
 gate() { bash .ci/run; }
 archive() { (cd crates/host && "${RT:-rt}" lib); }
 runner() { (cd crates/runner && "${RT:-rt}" run < /dev/null); }
+replayer() { (cd crates/replayer && "${RT:-rt}" run < stdin > /dev/null); }
 
 reference() {
     sh reference/build.sh || return 1
@@ -67,6 +72,17 @@ packages() (
     exit $wrong
 )
 
+tool() {
+    [ -f "$archive" ] || { lacks "$archive" "cd crates/host && rt lib"; return 1; }
+    sh scripts/tool.sh "$archive" "$seeds_of_hosts"
+}
+
+plant() {
+    [ -f "$archive" ] || { lacks "$archive" "cd crates/host && rt lib"; return 1; }
+    [ -x "$replayer" ] || { lacks "$replayer" "cd crates/replayer && rt run < stdin > /dev/null"; return 1; }
+    sh scripts/plant.sh "$archive" "$seeds_of_hosts" "$replayer" && python3 plant/tests/wrong_engines.py
+}
+
 hosts() {
     [ -f "$archive" ] || { lacks "$archive" "cd crates/host && rt lib"; return 1; }
     sh scripts/hosts.sh "$archive" "$seeds_of_hosts" "$calls"
@@ -75,7 +91,7 @@ hosts() {
 lacks() { echo "there is no $1: make it by '$2'"; }
 
 seeds=500 streams=2500 damaged=30000 members=1000 seeds_of_hosts=20 calls=1000000
-steps="gate archive runner reference mutants streams pages packages hosts"
+steps="gate archive runner replayer reference mutants streams pages packages tool plant hosts"
 case ${1:-} in
     fast)
         seeds=2 streams=40 damaged=200 members=20 seeds_of_hosts=2 calls=20000

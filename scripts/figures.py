@@ -341,7 +341,7 @@ PAGES = [
     ("docs/PERFORMANCE.md", "This is added up from the table"),
     ("docs/PERFORMANCE.md", "comes to {round_of_sixteen(64)} ms at a full ceiling of 64 and to {round_of_sixteen(1024)} ms "
      "at 1,024."),
-    ("docs/PERFORMANCE.md", f"It takes {{chosen({COPIES}, 5, 0, c0='1024', c1='full', c2='499', c4='engine')}} us where a commit "
+    ("docs/PERFORMANCE.md", f"In the table of previews it takes {{chosen({COPIES}, 5, 0, c0='1024', c1='full', c2='499', c4='engine')}} us where a commit "
      f"of 499 blocks at a full ceiling of 1,024 takes {{chosen({COPIES}, 6, 0, c0='1024', c1='full', c2='499', c4='engine')}}. "
      f"Copying the table, committing there and listing take {{chosen({COPIES}, 9, 1, c1='full', c4='engine')}} times a preview."),
     ("docs/PERFORMANCE.md", f"a commit's checks cost: {{chosen({HANGS}, 7, 2, c1='full', c3='engine')}} times a commit that is refused "

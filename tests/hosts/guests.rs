@@ -1,4 +1,4 @@
-//! Guests' calls: each of the eighteen by hand, with every right alone and every
+//! Guests' calls: each of the eighteen forms but block rows by hand, with every right alone and every
 //! right but one, by callers below and above 7; on states and stretches of all
 //! sorts 26 before 29 before 1. Then by chance: every call on grown, damaged,
 //! malformed and short states. With the right it must be the host's own call on a

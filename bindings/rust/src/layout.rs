@@ -42,10 +42,10 @@ pub const QUEUE_PLACES: usize = 8;
 /// The most blocks of a state, at ceiling 1,024.
 pub const BLOCKS: usize = 511;
 /// Bytes of stack that serve every call of `lent` and `storing` on x86-64; docs/HOSTS.md has what each uses.
-pub const STACK_BYTES: usize = 98_304;
-/// The same of an owner's calls, those of an `Engine`: opening and restoring one use about 93 KB,
-/// block rows and the chain about 89 KB, a port read about 77 KB, each other one less than 15 KB.
-pub const OWNED_STACK_BYTES: usize = 98_304;
+pub const STACK_BYTES: usize = 49_152;
+/// The same of an owner's calls, those of an `Engine`: opening and restoring one, block rows and the
+/// chain use about 41 KB, a port read about 36 KB, each other one 11 KB or less.
+pub const OWNED_STACK_BYTES: usize = 49_152;
 
 /// Of a state: own number.
 pub const STATE_OWN: usize = 0;

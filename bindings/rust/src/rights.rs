@@ -13,7 +13,7 @@ pub enum Right {
     Sign = 1,
     /// Advance, commit.
     Drive = 2,
-    /// Committee, share, bond effect, certificate, block, preview, critical; the chain; one's own port.
+    /// Committee, share, bond effect, certificate, block, block rows, preview, critical; the chain; one's own port.
     Read = 3,
 }
 

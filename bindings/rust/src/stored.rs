@@ -20,7 +20,7 @@ pub enum FromBytesError {
     Format(u32),
     /// Fewer or more bytes than the lengths in front ask for, or a state of another length.
     Length,
-    /// The state is not well formed: the engine's calls would answer 1.
+    /// The words are no member's as calls leave them: the state is not well formed, or histories are not whole.
     Malformed,
 }
 

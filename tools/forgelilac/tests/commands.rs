@@ -219,7 +219,7 @@ fn a_sheet_is_filled_and_weighed() {
             "total 25, fault bound 8, a quorum weighs 17, votes that commit weigh 9 or more",
             "needed in every quorum: members 0 1",
             "table                                                   70,720",
-            "one engine with one such list                          181,468",
+            "one engine with one such list                          132,316",
             "signatures of 64 bytes that the host keeps, at most  1,048,576",
         ],
     );
@@ -231,7 +231,7 @@ fn a_sheet_is_filled_and_weighed() {
             "5 members may be away, whoever; with one more every line stops",
             "that is enough for those that may be away: they ask for a lookback of 11 or more",
             "the last block: of round 1,022, by the commit in round 1,023",
-            "one engine with one such list                         1,410,268",
+            "one engine with one such list                         1,361,116",
         ],
     );
     let text = said(&["sheet", "weights=20,1,1,1,1,1,1,1,1,1,1,1,1,1,1,1"]);

@@ -127,7 +127,7 @@ pub enum RestoreError {
     Torn,
     /// No engine's bytes.
     Bytes(FromBytesError),
-    /// The state is not well formed.
+    /// The words are no member's as calls leave them: the state is not well formed, or histories are not whole.
     Malformed,
     /// The words are those of this member.
     OtherMember(Member),
