@@ -1,4 +1,3 @@
-pub mod Guests
 pub mod RunsLaws
 pub mod OwnedRunsLaws
 pub mod LeaderLaws

@@ -24,7 +24,7 @@ pub extern "C" fn forgelilac_batch(
 
 /// A guest has a row of certificates tried. It answers 26 for a caller above 7 and 29 for one without the right, and then nothing is tried and no word changes. Else it does and answers what `forgelilac_batch` does. Right: sign. docs/RULES.md, "Rights" and "Batches".
 #[unsafe(no_mangle)]
-#[tactic(auto, using(crate::proofs::Guests::guest_refused, crate::proofs::Guests::guest_allowed, crate::proofs::Guests::some_number))]
+#[tactic(auto, using(hosting::proofs::Answered::guest_refused, hosting::proofs::Answered::guest_allowed, hosting::proofs::Answered::some_number))]
 pub extern "C" fn forgelilac_guest_batch(
     caller: u32,
     state: &[u32],

@@ -1,5 +1,5 @@
 //! The calls of guests: the caller's right, and then the host's own call.
-#![tactic(auto, using(crate::proofs::Guests::guest_refused, crate::proofs::Guests::guest_allowed, crate::proofs::Guests::some_number))]
+#![tactic(auto, using(hosting::proofs::Answered::guest_refused, hosting::proofs::Answered::guest_allowed, hosting::proofs::Answered::some_number))]
 
 ghost use Rattle.std.specs.Prelude.{[]};
 ghost use Rattle.hosting.specs.Calls.{plain, packed, Done};

@@ -28,7 +28,7 @@ pub extern "C" fn forgelilac_owned_batch(
 
 /// A guest has a row of certificates tried, of a host that owns its words: `forgelilac_guest_batch`, with the kept committees. Right: sign.
 #[unsafe(no_mangle)]
-#[tactic(auto, using(crate::proofs::Guests::guest_refused, crate::proofs::Guests::guest_allowed, crate::proofs::Guests::some_number))]
+#[tactic(auto, using(hosting::proofs::Answered::guest_refused, hosting::proofs::Answered::guest_allowed, hosting::proofs::Answered::some_number))]
 pub extern "C" fn forgelilac_owned_guest_batch(
     caller: u32,
     state: &[u32],

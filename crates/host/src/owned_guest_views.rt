@@ -1,5 +1,5 @@
 //! What guests read of a host that owns its words, each with the right to read: the caller's right, and then the owner's own read. Parameters are those of include/forgelilac.h, as many as they are.
-#![tactic(auto, using(crate::proofs::Guests::guest_refused, crate::proofs::Guests::guest_allowed, crate::proofs::Guests::some_number))]
+#![tactic(auto, using(hosting::proofs::Answered::guest_refused, hosting::proofs::Answered::guest_allowed, hosting::proofs::Answered::some_number))]
 
 ghost use Rattle.std.specs.Prelude.{[], length};
 ghost use Rattle.engine.specs.Calls.{committee, share, effect, certificate, block, preview, critical, blocks};

@@ -1,5 +1,5 @@
 //! Guests' accesses to their serial ports, of a host that owns its words: the caller's right to read, and then the access.
-#![tactic(auto, using(crate::proofs::Guests::guest_refused, crate::proofs::Guests::guest_allowed, crate::proofs::Guests::some_number))]
+#![tactic(auto, using(hosting::proofs::Answered::guest_refused, hosting::proofs::Answered::guest_allowed, hosting::proofs::Answered::some_number))]
 
 ghost use Rattle.std.specs.Prelude.{[]};
 ghost use Rattle.serial.specs.Calls.{read, write};

@@ -21,6 +21,7 @@ use Rattle.owned.specs.Rooted.{Rooted}
 use Rattle.owned.specs.Owned.{Owned}
 use Rattle.owned.specs.Resuming.{Resumable}
 use Rattle.owned.proofs.TestingLaws.{names-none}
+use Rattle.owned.proofs.TogetherTestLaws.{together-none}
 
 -- nothing is held in a cleared table
 rooted-cleared : (t : List ℕ) (n : ℕ) → Rooted n (clear_used t n)
@@ -39,14 +40,20 @@ module _ (w t k : List ℕ) (own : ℕ) (sheet : List ℕ) (rights : ℕ) (z : (
       let d = open_handed (record { 0 = own }) sheet (record { 0 = rights }) in
       let a = accepted-call w t [] _ c z in
       let g = accepted-gives w t [] d z in
-      let n = accepted-new (engine_for w t [] writes) c a.accepted in
-      let s = g.gives ∙ ap (λ (e : Engine). e.state) n in
-      let u = a.its_table ∙ ap (λ (e : Engine). e.table) n in
+      let x = accepted-new (engine_for w t [] writes) c a.accepted in
+      let s = g.gives ∙ ap (λ (e : Engine). e.state) x in
+      let u = a.its_table ∙ ap (λ (e : Engine). e.table) x in
+      let n = (filled (sheet_in sheet (record { 0 = rights }))).ceiling in
       record {
         reads = g.can_read;
-        whole = record { formed = accepted-formed w t [] d z; rooted = rw (s, u) (rooted-cleared t (filled (sheet_in sheet (record { 0 = rights }))).ceiling); proposal = rw (s, u) (names-none (clear_used t (filled (sheet_in sheet (record { 0 = rights }))).ceiling) 1) };
+        whole = record {
+          formed = accepted-formed w t [] d z;
+          rooted = rw (s, u) (rooted-cleared t n);
+          proposal = rw (s, u) (names-none (clear_used t n) 1);
+          together = rw (s, u) (together-none (clear_used t n) n);
+        };
         room = l;
       }
 
 pub owned_resumes : (w t k l : List ℕ) → Owned w t k → (state_in w).settings.ceiling * 16 + 17 ≤ length l → Resumable w t l
-owned_resumes w t k l h r = record { reads = h.reads; whole = record { formed = sym h.cached.form; rooted = h.rooted; proposal = h.proposal }; room = r }
+owned_resumes w t k l h r = record { reads = h.reads; whole = record { formed = sym h.cached.form; rooted = h.rooted; proposal = h.proposal; together = h.together }; room = r }

@@ -20,4 +20,5 @@ pub mod renewal;
 pub mod resuming;
 pub mod rooted;
 pub mod theorems;
+pub mod together;
 pub mod views;

@@ -43,7 +43,7 @@ pub fn critical(
     pivots::critical_kept(&s, table, kept, list)
 }
 
-/// What `number` blocks after the first `known` hold, eighteen words for each certificate, into `list`. Whom a block's rows start with is told by the kept committees; which rows it has, by one pass over the marks of all that is held.
+/// What `number` blocks after the first `known` hold, eighteen words for each certificate, into `list`. Whom a block's rows start with is told by the kept committees; no other rows are looked at than those between which the block's certificates lie.
 pub fn block_rows(
     state: &[u32],
     table: &[u32],
@@ -60,5 +60,5 @@ pub fn block_rows(
     let Some(s) = words::states::state(state) else {
         return Err(Refusal::Malformed);
     };
-    spans::blocks_in_view(&known::view(&s, table, kept), known, number, list)
+    spans::blocks_together(&known::view(&s, table, kept), known, number, list)
 }

@@ -9,6 +9,7 @@ ghost use Rattle.hosting.specs.HostCalls.{comes_to, port};
 ghost use Rattle.owned.specs.Owned.{Owned};
 
 use crate::known;
+use extents::Hints;
 use refusals::Refusal;
 
 /// Reads a register of a guest's port, 0 to 7, by its offset 0 to 7. The value is the byte.
@@ -29,7 +30,11 @@ pub fn port_read(
         return Err(Refusal::Malformed);
     };
     let words = known::words(&s, table, kept);
-    serial::read_formed(&kept[..words], &s, table, guest, offset)
+    let hints = Hints {
+        cache: &kept[..words],
+        together: true,
+    };
+    serial::read_formed(hints, &s, table, guest, offset)
 }
 
 /// Writes a byte to a register of a guest's port, 0 to 7, by its offset 0 to 7.

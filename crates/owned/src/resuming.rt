@@ -8,13 +8,13 @@ ghost use Rattle.owned.specs.Testing.{Tells};
 ghost use Rattle.owned.specs.Resuming.{Whole, Resumable, Filled};
 ghost use Rattle.owned.specs.Owned.{Owned};
 
-use crate::rooted;
+use crate::{rooted, together};
 use chain_committees::cache;
 use chain_committees::chain::Chain;
 use state::State;
 use terms::Round;
 
-// Is the state well formed with its table, and are histories whole?
+// Is the state well formed with its table, are histories whole, and do the blocks hang together?
 fn is_whole(state: &State, table: &[u32]) -> bool
     ensures { Tells result (Whole state.now table.now) }
 {
@@ -24,7 +24,10 @@ fn is_whole(state: &State, table: &[u32]) -> bool
     if !rooted::is_rooted(table, state.settings.ceiling) {
         return false;
     }
-    rooted::is_proposal_rooted(state, table)
+    if !rooted::is_proposal_rooted(state, table) {
+        return false;
+    }
+    together::is_together(Chain::new(table, &state.settings, state.blocks))
 }
 
 // Has `kept` room for the committees of all rounds up to the ceiling?

@@ -19,3 +19,4 @@ pub mod ReadLaws
 pub mod WriteLaws
 pub mod GrownLaws
 pub mod RowLaws
+pub mod ExtentLaws

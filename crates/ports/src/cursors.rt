@@ -6,9 +6,8 @@ ghost use Rattle.std.specs.Prelude.{◌≡◌, true, false, List, ◌≢◌, ℕ
 ghost use Rattle.store.specs.Table.{Within, mark_at};
 ghost use Rattle.base.specs.Puts.{Puts};
 ghost use Rattle.chain_committees.specs.BlockChanges.{start_at};
-ghost use Rattle.chain_committees.specs.Caches.{Caches};
 ghost use Rattle.chain_committees.specs.Links.{Marked};
-ghost use Rattle.chain_committees.specs.Told.{blocks_in};
+ghost use Rattle.extents.specs.Together.{Together, Hinted};
 ghost use Rattle.ports.specs.Places.{line_at, HasLine, LineRoom};
 ghost use Rattle.ports.specs.Next.{first_place, lines_from, lines_beyond, key_place, key_of, KeyFound, BlockFound, LinePlace, NextInBlock};
 
@@ -16,6 +15,7 @@ use crate::rows::{self, ByRows};
 use chain_committees::chain::Chain;
 use chain_committees::walk::Walk;
 use chain_committees::{cache, over_blocks};
+use extents::Hints;
 use terms::{Member, Round};
 
 // The line of `place`, from the start of a buffer on; gives its length.
@@ -61,16 +61,32 @@ fn place_of(start: Member, key: u32) -> u32
 }
 
 // From `key` on, the first one with a certificate of `block`, whose rows start with member `start`; the end if there is none.
-fn next_key(chain: Chain, block: u32, start: Member, key: u32) -> u32
-    requires { (start.0 ≤ 16) × (key ≤ chain.settings.now.ceiling * 16 + 16) }
+fn next_key(chain: Chain, together: bool, block: u32, start: Member, key: u32) -> u32
+    requires block { (0 < block) × (block ≤ chain.blocks) }
+    requires to { (start.0 ≤ 16) × (key ≤ chain.settings.now.ceiling * 16 + 16) }
+    requires together { let c = chain in
+        together ≡ true → Together c.settings.now.ceiling c.table.now c.blocks }
     ensures { let c = chain.entry in
         KeyFound c.table.now c.settings.now.ceiling block start.0 key result }
 {
     let ceiling = chain.settings.ceiling;
-    let end = ceiling.0 * 16 + 16;
-    (key..end)
+    let top = extents::top(chain, together, block);
+    (key..top.0 * 16 + 16)
         .find(|&i| rows::is_marked(chain.table, block, place_of(start, i)))
-        .unwrap_or(end)
+        .unwrap_or(ceiling.0 * 16 + 16)
+}
+
+// The first key with a certificate of `block`, whose rows start with member `start`; the end if there is none.
+fn first_key(chain: Chain, together: bool, block: u32, start: Member) -> u32
+    requires block { (0 < block) × (block ≤ chain.blocks) }
+    requires to { start.0 ≤ 16 }
+    requires together { let c = chain in
+        together ≡ true → Together c.settings.now.ceiling c.table.now c.blocks }
+    ensures { let c = chain.entry in
+        KeyFound c.table.now c.settings.now.ceiling block start.0 16 result }
+{
+    let low = extents::low(chain, together, block);
+    next_key(chain, together, block, start, low.0 * 16 + 16)
 }
 
 // The first block after `block` that has a certificate; one above the last if there is none.
@@ -98,7 +114,9 @@ fn key_after(start: Member, place: u32) -> u32
 
 // The place after `place` in the order of its block, if there is one, where the block's rows start with member `start`.
 #[tactic(auto, using(crate::proofs::SearchLaws::next_key_in, crate::proofs::SearchLaws::no_key_in))]
-fn next_from(chain: Chain, start: Member, place: u32) -> Option<u32>
+fn next_from(chain: Chain, together: bool, start: Member, place: u32) -> Option<u32>
+    requires together { let c = chain in
+        together ≡ true → Together c.settings.now.ceiling c.table.now c.blocks }
     requires place { LinePlace chain.table.now chain.settings.now.ceiling chain.blocks place }
     requires start { start.0 ≡ start_at chain.settings.now chain.table.now
         (mark_at chain.table.now (place % 16) (place / 16) - 1) }
@@ -107,7 +125,7 @@ fn next_from(chain: Chain, start: Member, place: u32) -> Option<u32>
         NextInBlock c.settings.now c.table.now c.blocks place result }
 {
     let block = store::record::mark(chain.table, Member(place % 16), Round(place / 16));
-    let key = next_key(chain, block, start, key_after(start, place));
+    let key = next_key(chain, together, block, start, key_after(start, place));
     let ceiling = chain.settings.ceiling;
     if key < ceiling.0 * 16 + 16 {
         Some(place_of(start, key))
@@ -126,7 +144,7 @@ fn next_in_block(walk: &mut Walk, place: u32) -> Option<u32>
 {
     let block = store::record::mark(walk.chain.table, Member(place % 16), Round(place / 16));
     walk.begin(block);
-    next_from(walk.chain, walk.start(block - 1), place)
+    next_from(walk.chain, false, walk.start(block - 1), place)
 }
 
 // The place of the first line of the blocks after `block`, if there is one, by a walk that goes on to the block that has it.
@@ -141,7 +159,7 @@ fn first_after(walk: &mut Walk, block: u32) -> Option<u32>
     }
     walk.begin(next);
     let start = walk.start(next - 1);
-    let key = next_key(walk.chain, next, start, 16);
+    let key = first_key(walk.chain, false, next, start);
     Some(place_of(start, key))
 }
 
@@ -174,9 +192,9 @@ fn walked_after(chain: Chain, place: u32) -> Option<u32>
 }
 
 // The place of the first line of the block after the first ones, `before` in number, if it has one and the committee of its round is cached.
-fn cached_first(chain: Chain, cache: &[u64], before: u32) -> Option<u32>
+fn cached_first(chain: Chain, hints: Hints, before: u32) -> Option<u32>
     requires before { before ≤ chain.blocks }
-    requires caches { let c = chain in Caches c.settings.now (blocks_in c) cache.now }
+    requires hints { let c = chain in Hinted c.settings.now c.table.now c.blocks hints }
     ensures { let c = chain.entry in
         IfSome result (λ v. Some v
         ≡ first_place (lines_beyond c.settings.now c.table.now c.blocks before)) }
@@ -184,10 +202,10 @@ fn cached_first(chain: Chain, cache: &[u64], before: u32) -> Option<u32>
     if before == chain.blocks {
         return None;
     }
-    let Some(start) = cache::start_of(cache, chain, before) else {
+    let Some(start) = cache::start_of(hints.cache, chain, before) else {
         return None;
     };
-    let key = next_key(chain, before + 1, start, 16);
+    let key = first_key(chain, hints.together, before + 1, start);
     let ceiling = chain.settings.ceiling;
     if key < ceiling.0 * 16 + 16 {
         Some(place_of(start, key))
@@ -198,8 +216,8 @@ fn cached_first(chain: Chain, cache: &[u64], before: u32) -> Option<u32>
 
 // The place of the line after that of `place`, the first one's after 0, where cached committees tell it.
 #[tactic(auto, using(crate::proofs::SearchLaws::from_start), unfolding(crate::specs::Next::NextInBlock))]
-fn cached_after(chain: Chain, cache: &[u64], place: u32) -> Option<u32>
-    requires caches { let c = chain in Caches c.settings.now (blocks_in c) cache.now }
+fn cached_after(chain: Chain, hints: Hints, place: u32) -> Option<u32>
+    requires hints { let c = chain in Hinted c.settings.now c.table.now c.blocks hints }
     requires place { place ≢ 0
         → LinePlace chain.table.now chain.settings.now.ceiling chain.blocks place }
     ensures { let c = chain.entry in
@@ -207,32 +225,32 @@ fn cached_after(chain: Chain, cache: &[u64], place: u32) -> Option<u32>
         ≡ first_place (lines_from c.settings.now c.table.now c.blocks place)) }
 {
     if place == 0 {
-        return cached_first(chain, cache, 0);
+        return cached_first(chain, hints, 0);
     }
     let block = store::record::mark(chain.table, Member(place % 16), Round(place / 16));
-    let Some(start) = cache::start_of(cache, chain, block - 1) else {
+    let Some(start) = cache::start_of(hints.cache, chain, block - 1) else {
         return None;
     };
-    match next_from(chain, start, place) {
+    match next_from(chain, hints.together, start, place) {
         Some(next) => Some(next),
-        None => cached_first(chain, cache, block),
+        None => cached_first(chain, hints, block),
     }
 }
 
 /// The place of the line after that of `place` in the listing of a chain, if there is one; the first line's where `place` is 0. The listing is not made for it, and a leader is looked for only where the rows do not tell it: in the committees that are cached, and then by a walk over the blocks.
-pub(crate) fn line_after(chain: Chain, cache: &[u64], place: u32) -> Option<u32>
-    requires caches { let c = chain in Caches c.settings.now (blocks_in c) cache.now }
+pub(crate) fn line_after(chain: Chain, hints: Hints, place: u32) -> Option<u32>
+    requires hints { let c = chain in Hinted c.settings.now c.table.now c.blocks hints }
     requires place { place ≢ 0
         → LinePlace chain.table.now chain.settings.now.ceiling chain.blocks place }
     ensures { let c = chain.entry in
         result ≡ first_place (lines_from c.settings.now c.table.now c.blocks place) }
 {
-    match rows::line_after(chain, place) {
+    match rows::line_after(chain, hints.together, place) {
         ByRows::Nothing => return None,
         ByRows::Line(next) => return Some(next),
         ByRows::Untold => {}
     }
-    match cached_after(chain, cache, place) {
+    match cached_after(chain, hints, place) {
         Some(next) => Some(next),
         None => walked_after(chain, place),
     }

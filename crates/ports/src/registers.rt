@@ -5,9 +5,7 @@ ghost use Rattle.std.proofs.Math.Seq.{paste};
 ghost use Rattle.base.specs.Options.{if_there};
 ghost use Rattle.store.specs.Table.{Row};
 ghost use Rattle.terms.specs.declared.sheet.Settings.{Settings};
-ghost use Rattle.committee.specs.Chain.{chain_of};
-ghost use Rattle.chain_committees.specs.Caches.{Caches};
-ghost use Rattle.chain_committees.specs.Told.{blocks_in};
+ghost use Rattle.extents.specs.Together.{Hinted};
 ghost use Rattle.ports.specs.Uart.{values_at, after_read, after_write};
 ghost use Rattle.ports.specs.Ports.{port_word, port_start, words_written, listing_of, port_in, FormedPort, put_port};
 ghost use Rattle.ports.specs.Bytes.{next_byte, looks_at_next};
@@ -19,6 +17,7 @@ use crate::places::{
     PORT_MODEM, PORT_PLACE, PORT_SCRATCH,
 };
 use chain_committees::chain::Chain;
+use extents::Hints;
 use store::lengths::PORT;
 use terms::sheet::Settings;
 
@@ -35,8 +34,8 @@ pub(crate) struct Next {
 
 // The next byte of `port`, none where no byte waits.
 #[tactic(auto, using(crate::proofs::RegisterNextLaws::has_line, crate::proofs::RegisterNextLaws::stands_at))]
-fn next_byte(chain: Chain, cache: &[u64], port: u32) -> Option<Next>
-    requires caches { let c = chain in Caches c.settings.now (blocks_in c) cache.now }
+fn next_byte(chain: Chain, hints: Hints, port: u32) -> Option<Next>
+    requires hints { let c = chain in Hinted c.settings.now c.table.now c.blocks hints }
     requires formed { FormedPort chain.settings.now chain.table.now chain.blocks port }
     ensures { let c = chain.entry in result ≡ next_byte c.settings.now c.table.now c.blocks port }
 {
@@ -50,7 +49,7 @@ fn next_byte(chain: Chain, cache: &[u64], port: u32) -> Option<Next>
             byte: cursors::line_byte(table, place, bytes),
         });
     }
-    let Some(q) = cursors::line_after(chain, cache, place) else {
+    let Some(q) = cursors::line_after(chain, hints, place) else {
         return None;
     };
     Some(Next {
@@ -177,31 +176,30 @@ fn looks_at_next(offset: u32) -> bool
 }
 
 // The next byte, where `offset` looks at it.
-fn found(chain: Chain, cache: &[u64], port: u32, offset: u32) -> Option<Next>
-    requires caches { let c = chain in Caches c.settings.now (blocks_in c) cache.now }
+fn found(chain: Chain, hints: Hints, port: u32, offset: u32) -> Option<Next>
+    requires hints { let c = chain in Hinted c.settings.now c.table.now c.blocks hints }
     requires formed { FormedPort chain.settings.now chain.table.now chain.blocks port }
     ensures { let c = chain.entry in
         looks_at_next offset ≡ true → result ≡ next_byte c.settings.now c.table.now c.blocks port }
 {
     if looks_at_next(offset) {
-        next_byte(chain, cache, port)
+        next_byte(chain, hints, port)
     } else {
         None
     }
 }
 
 /// A read of `port`, 0 to 7, at `offset`, 0 to 7: gives the byte that the offset shows. At offset 0, while bit 7 of offset 3 is clear and a byte of the listing waits, that byte is taken; nothing else changes.
-/// Committees of the chain's rounds may be cached.
+/// Hints may tell committees of the chain's rounds, and that its blocks hang together.
 pub fn read(
-    cache: &[u64],
+    hints: Hints,
     table: &mut [u32],
     settings: &Settings,
     blocks: u32,
     port: u32,
     offset: u32,
 ) -> u32
-    requires caches { let s = settings.now in
-        Caches s (chain_of s.ceiling table.old blocks) cache.now }
+    requires hints { Hinted settings.now table.old blocks hints }
     requires formed { FormedPort settings.now table.old blocks port }
     requires offset { offset < 8 }
     ensures { let s = settings.now in
@@ -212,7 +210,7 @@ pub fn read(
         ≡ put_port s table.old blocks port (after_read (listing_of s table.old blocks)
         (port_in s table.old blocks port) offset)) }
 {
-    let next = found(Chain::new(table, settings, blocks), cache, port, offset);
+    let next = found(Chain::new(table, settings, blocks), hints, port, offset);
     let byte = value(table, port, offset, next);
     take(table, port, offset, next);
     byte

@@ -1,34 +1,25 @@
--- A guest's call is refused by its right, or comes to what the host's own call does.
-use Rattle.std.proofs.Common.{◌≡◌, refl, ℕ, ◌*◌, ◌<◌, List, zero-add, arith}
-use Rattle.refusals.specs.declared.Refusal.{Refusal}
-use Rattle.refusals.specs.Refusals.{number_of}
-use Rattle.refusals.proofs.RefusalLaws.{some-number}
+-- A guest's call that is refused by its right changes no word, and what it answers.
+use Rattle.std.proofs.Common.{◌≡◌, refl, ℕ, ◌*◌, ◌<◌, List, zero-add}
 use Rattle.terms.specs.declared.rights.Right.{Right}
 use Rattle.terms.specs.Rights.{caller_refusal}
 use Rattle.hosting.specs.Calls.{Result, refused, packed}
 use Rattle.hosting.specs.Guested.{rights_in, as_guest}
-use Rattle.hosting.proofs.GuestedLaws.{guest-barred, guest-allowed}
+use Rattle.hosting.proofs.Answered.{guest_refused}
 use Rattle.library.specs.Lists.{Words, after_call}
 use Rattle.replaying.specs.declared.calls.GuestCall.{GuestCall}
 use Rattle.replaying.specs.declared.calls.GuestCall.TheVariants as guest
 use Rattle.replaying.specs.Told.{right_of, told_guest, comes_of, answer_of_guest, refused_guest}
 
 module _ (w t o : List ℕ) (c : ℕ) (r : Right) (x : Result) where
-  pub guest_refused : 0 < caller_refusal (rights_in w) r c → as_guest w t o c r x ≡ refused w t o (caller_refusal (rights_in w) r c)
-  guest_refused h = guest-barred w t o c r x (λ z. omega arith)
-
-  pub guest_allowed : caller_refusal (rights_in w) r c ≡ 0 → as_guest w t o c r x ≡ x
-  guest_allowed h = guest-allowed w t o c r x h
-
   -- refused by its right, it changes no word
   unchanged : 0 < caller_refusal (rights_in w) r c → (let a : Words = record { state = (as_guest w t o c r x).state; table = (as_guest w t o c r x).table } in a) ≡ record { state = w; table = t }
-  unchanged h = rw (guest_refused h) refl
+  unchanged h = rw (guest_refused w t o c r x h) refl
 
   numbered : 0 < caller_refusal (rights_in w) r c → (as_guest w t o c r x).refusal ≡ caller_refusal (rights_in w) r c
-  numbered h = rw (guest_refused h) refl
+  numbered h = rw (guest_refused w t o c r x h) refl
 
   packed_number : 0 < caller_refusal (rights_in w) r c → packed (as_guest w t o c r x) ≡ caller_refusal (rights_in w) r c * 4294967296
-  packed_number h = rw (guest_refused h) (zero-add _)
+  packed_number h = rw (guest_refused w t o c r x h) (zero-add _)
 
 module _ (k : Words) (c : ℕ) where
   -- so each call of a guest
@@ -57,7 +48,3 @@ module _ (k : Words) (c : ℕ) where
   guest_answer guest.Commit h = packed_number _ _ _ _ _ _ h
   guest_answer (guest.PortRead o) h = packed_number _ _ _ _ _ _ h
   guest_answer (guest.PortWrite o b) h = numbered _ _ _ _ _ _ h
-
--- every refusal has a number
-pub some_number : (e : Refusal) → 0 < number_of e
-some_number e = let n = some-number e in omega arith

@@ -58,7 +58,7 @@ pub record Told (b t : List ℕ) : Type 0 where
   pub made : Replays words head entries keepers answers
   pub tells : t ≡ told_bytes keepers answers
 
--- why a list is not made again: nothing is told then, unless the writer itself has failed; a has what was told before, b what is told afterwards
+-- why a list is not made again: nothing is told then, unless a stream has failed; a has what was told before, b what is told afterwards
 abbrev pub Silent : Failure → Option (List ℕ) → Option (List ℕ) → Type 0
 Silent (Stream e) a b = Unit {0}
 Silent f a b = Keeps a b

@@ -89,7 +89,7 @@ fn refused(call: &GuestCall, refusal: Refusal) -> u64
 }
 
 // A guest's call by a caller who may make it, on the words of its host's member.
-#[tactic(auto, using(crate::proofs::Guests::guest_allowed))]
+#[tactic(auto, using(hosting::proofs::Answered::guest_allowed))]
 fn make_allowed(
     state: &mut [u32],
     table: &mut [u32],
@@ -141,7 +141,7 @@ fn make_allowed(
 }
 
 // A guest's call: the caller's right, and then the call.
-#[tactic(auto, using(crate::proofs::Guests::guest_unchanged, crate::proofs::Guests::guest_answer, crate::proofs::Guests::some_number))]
+#[tactic(auto, using(crate::proofs::Guests::guest_unchanged, crate::proofs::Guests::guest_answer, hosting::proofs::Answered::some_number))]
 fn make_guest(keeper: &mut Keeper, caller: u32, call: &GuestCall) -> u64
     requires { OwnedWords keeper.old }
     ensures words { words_of keeper.new

@@ -54,6 +54,7 @@ fn open_owned(
     ensures owned { OnOk result (Owned state.new table.new kept.new) }
 {
     open(state, table, own, head)?;
+    // What an open leaves can be resumed, where there is room (owned::theorems, `opened_resumes`).
     resuming::resume(state, table, kept);
     Ok(())
 }
@@ -77,7 +78,7 @@ fn lent(alloc: Global, head: &Head) -> Result<Keeper, Failure>
 }
 
 // A member's words, opened, and the committees that its host keeps beside them.
-#[tactic(auto, using(crate::proofs::OpenedLaws::unopened, crate::proofs::Guests::some_number))]
+#[tactic(auto, using(crate::proofs::OpenedLaws::unopened, hosting::proofs::Answered::some_number))]
 fn opened(alloc: Global, own: u32, head: &Head) -> Result<Keeper, Failure>
     ensures words { IfOk result (λ k. words_of k ≡ opened head.now own) }
     ensures accepted { OnOk result (Opens head.now own) }
@@ -85,16 +86,14 @@ fn opened(alloc: Global, own: u32, head: &Head) -> Result<Keeper, Failure>
     ensures failed { IfErr result (Unopened head.now own) }
 {
     let mut keeper = lent(alloc, head)?;
-    let opened = open_owned(
+    open_owned(
         &mut keeper.state,
         &mut keeper.table,
         &mut keeper.kept,
         own,
         head,
-    );
-    if let Err(refusal) = opened {
-        return Err(Failure::Refused(refusal.number()));
-    }
+    )
+    .map_err(|refusal| Failure::Refused(refusal.number()))?;
     Ok(keeper)
 }
 

@@ -5,12 +5,14 @@
 
 ghost use Rattle.std.specs.Prelude.{◌≡◌, true, IfOk};
 ghost use Rattle.base.specs.Checks.{refusal};
+ghost use Rattle.extents.specs.Together.{Together};
 ghost use Rattle.refusals.specs.Refusals.{refusal_in};
 ghost use Rattle.state.specs.Cached.{Cached};
 ghost use Rattle.state.specs.WellFormed.{well_formed};
 ghost use Rattle.serial.specs.Calls.{access, reset, read, write};
 ghost use Rattle.serial.specs.Serial.{access_checks, reset_checks, port_refusal, port_table, register};
 
+use extents::Hints;
 use ports::registers;
 use refusals::Refusal;
 use state::State;
@@ -40,16 +42,18 @@ pub fn check_reset(port: u32) -> Result<(), Refusal>
     Ok(())
 }
 
-/// A read of a port at an offset, where the state is well formed and committees may be cached.
+/// A read of a port at an offset, where the state is well formed; hints may tell committees of its rounds, and that its blocks hang together.
 #[tactic(auto, unfolding(base::specs::Checks::refusal, state::specs::Answers::if_accepted, crate::specs::Serial::port_refusal, crate::specs::Serial::register, crate::specs::Serial::ported_table, crate::specs::Serial::port_table))]
 pub fn read_formed(
-    cache: &[u64],
+    hints: Hints,
     state: &State,
     table: &mut [u32],
     port: u32,
     offset: u32,
 ) -> Result<u32, Refusal>
-    requires { Cached state.now table.old true cache.now }
+    requires cached { Cached state.now table.old true hints.cache.now }
+    requires together { hints.together ≡ true
+        → Together state.now.settings.ceiling table.old state.now.blocks }
     ensures refusal { refusal_in result
         ≡ port_refusal state.now table.old (access port (read offset)) }
     ensures value { IfOk result (λ v. v ≡ register state.now table.old port offset) }
@@ -57,7 +61,7 @@ pub fn read_formed(
 {
     check_access(port, offset)?;
     let settings = &state.settings;
-    Ok(registers::read(cache, table, settings, state.blocks, port, offset))
+    Ok(registers::read(hints, table, settings, state.blocks, port, offset))
 }
 
 /// A write of a byte there, where the state is well formed.
@@ -103,7 +107,7 @@ pub fn read(state: &State, table: &mut [u32], port: u32, offset: u32) -> Result<
     if !state::well_formed(state, table) {
         return Err(Refusal::Malformed);
     }
-    read_formed(&[], state, table, port, offset)
+    read_formed(extents::NONE, state, table, port, offset)
 }
 
 /// A write of a byte there.

@@ -2,3 +2,4 @@ pub mod Contents
 pub mod Spans
 pub mod Listed
 pub mod Rows
+pub mod Starts

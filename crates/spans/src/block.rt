@@ -2,17 +2,15 @@
 //!
 //! The place of member m and round r is number 16 r + m.
 
-ghost use Rattle.std.specs.Prelude.{◌≡◌, ◌+◌, ◌*◌, ◌/◌, ◌<◌, ◌≤◌, length};
+ghost use Rattle.std.specs.Prelude.{◌≡◌, true, false, [], ◌+◌, ◌*◌, ◌/◌, ◌<◌, ◌≤◌, length};
 ghost use Rattle.base.specs.Puts.{Puts};
 ghost use Rattle.store.specs.Table.{Row};
 ghost use Rattle.chain_committees.specs.BlockChanges.{start_at};
-ghost use Rattle.chain_committees.specs.Caches.{Caches};
-ghost use Rattle.chain_committees.specs.Told.{blocks_in};
+ghost use Rattle.chain_committees.specs.Links.{Marked};
 ghost use Rattle.words.specs.Lengths.{held_length};
 ghost use Rattle.words.specs.Proposals.{held_words};
 ghost use Rattle.spans.specs.Rows.{place_held, row_held, block_held, HeldFits, PutsHeld};
 
-use chain_committees::cache;
 use chain_committees::changes::links;
 use chain_committees::walk::Walk;
 use store::record;
@@ -29,17 +27,29 @@ fn put_held(list: &mut [u32], at: usize, proposal: Proposal, endorsers: u16, blo
     at + HELD
 }
 
+/// Does `block` hold a certificate at a place?
+#[tactic(auto, using(crate::proofs::RowLaws::held_absent, crate::proofs::RowLaws::held_other))]
+pub(crate) fn is_held(table: &[u32], block: u32, place: u32) -> bool
+    requires { Row table.now (place / 16) }
+    ensures yes { result ≡ true → Marked table.now block place }
+    ensures no { result ≡ false → place_held table.now block place ≡ [] }
+{
+    let author = Member(place % 16);
+    let round = Round(place / 16);
+    store::held(table, author, round) && record::mark(table, author, round) == block
+}
+
 // Puts what `block` holds at a place, from `at` on.
-#[tactic(auto, using(crate::proofs::RowLaws::held_absent, crate::proofs::RowLaws::held_other), unfolding(crate::specs::Spans::words_of))]
+#[tactic(auto, unfolding(crate::specs::Spans::words_of))]
 fn put_place(list: &mut [u32], at: usize, table: &[u32], block: u32, place: u32) -> usize
     requires row { Row table.now (place / 16) }
     requires room { HeldFits list.old at (place_held table.now block place) }
     ensures { PutsHeld list.old list.new at result table.now block
         (place_held table.now block place) }
 {
-    let author = Member(place % 16);
-    let round = Round(place / 16);
-    if store::held(table, author, round) && record::mark(table, author, round) == block {
+    if is_held(table, block, place) {
+        let author = Member(place % 16);
+        let round = Round(place / 16);
         let proposal = record::proposal_at(table, author, round);
         let endorsers = record::endorsers(table, author, round);
         put_held(list, at, proposal, endorsers, block)
@@ -48,8 +58,8 @@ fn put_place(list: &mut [u32], at: usize, table: &[u32], block: u32, place: u32)
     }
 }
 
-// Puts what it holds in the row of a place: numbers rise from that of `start`, with 0 after 15.
-fn put_row(
+/// Puts what `block` holds in the row of a place, from `at` on: numbers rise from that of `start`, with 0 after 15. Gives the next place of the list.
+pub(crate) fn put_row(
     list: &mut [u32],
     at: usize,
     table: &[u32],
@@ -71,18 +81,13 @@ fn put_row(
     to
 }
 
-/// With whom the rows of the block after the first ones, `before` in number, start, 16 for none: the leader of its round, by the committee that is cached, or else by a walk that goes on to this block.
-pub(crate) fn start(walk: &mut Walk, cache: &[u64], before: u32) -> Member
-    requires before { before < walk.old.chain.blocks }
-    requires caches { let c = walk.old.chain in
-        Caches c.settings.now (blocks_in c) cache.now }
+/// With whom the rows of the block after the first ones, `before` in number, start, 16 for none: the leader of its round, told by a walk that goes on to this block.
+pub(crate) fn start(walk: &mut Walk, before: u32) -> Member
+    requires { before < walk.old.chain.blocks }
     ensures chain { walk.new.chain ≡ walk.old.chain }
     ensures start { let c = walk.old.chain in
         result.0 ≡ start_at c.settings.now c.table.now before }
 {
-    if let Some(start) = cache::start_of(cache, walk.chain, before) {
-        return start;
-    }
     walk.begin(before + 1);
     walk.start(before)
 }

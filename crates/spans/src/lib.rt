@@ -1,18 +1,22 @@
-//! What blocks in a row hold, listed by one walk.
+//! What blocks in a row hold, as a list.
 //!
 //! The certificates of so many blocks after the first known, each block's in its order, as words in a lent list, with the endorsers that each was stored with (specs/Spans, specs/Listed). State and table stay as they are. Read in pieces they are the same, and what was read stays (src/theorems). docs/RULES.md, "Reads" and "Order inside a block".
-//! Its cost is that of one pass over the marks of all that is held, of two steps for each certificate in these blocks, and of one row looked at for each round in which a block has some. Where a block's start is not told by a cached committee, one walk goes on over the blocks before it.
+//! Of any state and table (`blocks`) its cost is that of one pass over the marks of all that is held, of two steps for each certificate in these blocks, of one row looked at for each round in which a block has some, and of one walk over the blocks up to the last of these.
+//! Where the blocks of the chain hang together (`blocks_together`, extents) there is no such pass: of each of these blocks the rows are looked at, four times each, between which its certificates lie, and one below them. A walk is begun only where a committee of their rounds is not cached, and then one for all.
 #![tactic(auto)]
 
+pub mod between;
 pub mod block;
+pub mod starts;
 pub mod theorems;
+pub mod together;
 
 ghost use Rattle.std.specs.Prelude.{◌≡◌, [], ◌∷◌, ◌+◌, ◌*◌, ◌/◌, ◌≤◌, IfOk, OnOk, length, nat_lt};
 ghost use Rattle.std.proofs.lemmas.List.Edits.{sets};
 ghost use Rattle.base.specs.Checks.{refusal};
 ghost use Rattle.base.specs.Puts.{Puts};
-ghost use Rattle.chain_committees.specs.Caches.{Caches};
 ghost use Rattle.chain_committees.specs.Told.{blocks_in};
+ghost use Rattle.extents.specs.Together.{Together};
 ghost use Rattle.refusals.specs.Refusals.{refusal_in};
 ghost use Rattle.state.specs.Answers.{if_accepted};
 ghost use Rattle.member_view.specs.Views.{shown};
@@ -41,10 +45,8 @@ fn count_span(walk: &Walk, known: u32, number: u32) -> u32
 }
 
 // Puts what these blocks hold, oldest first, from the front of the list.
-fn put_span(walk: &mut Walk, cache: &[u64], known: u32, number: u32, list: &mut [u32]) -> usize
+fn put_span(walk: &mut Walk, known: u32, number: u32, list: &mut [u32]) -> usize
     requires within { known + number ≤ walk.old.chain.blocks }
-    requires caches { let c = walk.old.chain in
-        Caches c.settings.now (blocks_in c) cache.now }
     requires room { let c = walk.old.chain in
         held_length * count_after c.settings.now (blocks_in c) known number ≤ length list.old }
     ensures { let c = walk.old.chain in
@@ -54,7 +56,7 @@ fn put_span(walk: &mut Walk, cache: &[u64], known: u32, number: u32, list: &mut 
 {
     let mut to = 0;
     for i in 0..number {
-        let start = block::start(walk, cache, known + i);
+        let start = block::start(walk, known + i);
         to = block::put(walk, start, known + i, list, to);
     }
     to
@@ -62,16 +64,8 @@ fn put_span(walk: &mut Walk, cache: &[u64], known: u32, number: u32, list: &mut 
 
 // Check 25, and the list.
 #[tactic(auto, using(crate::proofs::SpanLaws::held_counted), unfolding(base::specs::Checks::refusal, state::specs::Answers::if_accepted))]
-fn listed(
-    walk: &mut Walk,
-    cache: &[u64],
-    known: u32,
-    number: u32,
-    list: &mut [u32],
-) -> Result<u32, Refusal>
-    requires within { known + number ≤ walk.old.chain.blocks }
-    requires caches { let c = walk.old.chain in
-        Caches c.settings.now (blocks_in c) cache.now }
+fn listed(walk: &mut Walk, known: u32, number: u32, list: &mut [u32]) -> Result<u32, Refusal>
+    requires { known + number ≤ walk.old.chain.blocks }
     ensures refusal { let c = walk.old.chain in
         refusal_in result
         ≡ refusal ((
@@ -91,7 +85,7 @@ fn listed(
     if list.len() / HELD < count as usize {
         return Err(Refusal::LengthRange);
     }
-    put_span(walk, cache, known, number, list);
+    put_span(walk, known, number, list);
     Ok(count)
 }
 
@@ -108,28 +102,7 @@ fn check(view: &View, known: u32, number: u32) -> Result<(), Refusal>
     Ok(())
 }
 
-/// Lists what the `number` blocks after the first `known` hold, oldest first, each in its order: the words of each certificate are those that the read of a certificate gives, eighteen; the value is their number. Checks 23 and 25, in this order; refused, the list stays.
-/// Where the committees of these blocks' rounds are cached no block is applied.
-#[tactic(auto, unfolding(base::specs::Checks::refusal, state::specs::Answers::if_accepted, crate::specs::Listed::blocks_refusal, crate::specs::Listed::blocks_list))]
-pub fn blocks_in_view(
-    view: &View,
-    known: u32,
-    number: u32,
-    list: &mut [u32],
-) -> Result<u32, Refusal>
-    ensures refusal { let v = view.now in
-        refusal_in result ≡ blocks_refusal v.state.now v.table.now known number (length list.old) }
-    ensures value { let v = view.now in
-        IfOk result (λ c. c ≡ length (blocks_held v.state.now v.table.now known number)) }
-    ensures list { let v = view.now in
-        list.new ≡ blocks_list v.state.now v.table.now known number list.old }
-{
-    check(view, known, number)?;
-    let chain = view.chain();
-    over_blocks!(chain, walk => listed(&mut walk, view.cache, known, number, list))
-}
-
-/// The same of any state and table, with check 1 before the others.
+/// Lists what the `number` blocks after the first `known` hold, oldest first, each in its order: the words of each certificate are those that the read of a certificate gives, eighteen; the value is their number. Checks 1, 23 and 25, in this order; refused, the list stays.
 #[tactic(auto, unfolding(base::specs::Checks::refusal, state::specs::Answers::if_accepted, crate::specs::Listed::blocks_refusal, crate::specs::Listed::blocks_list))]
 pub fn blocks(
     state: &State,
@@ -144,5 +117,29 @@ pub fn blocks(
     ensures list { list.new ≡ blocks_list state.now table.now known number list.old }
 {
     let view = View::known(state::well_formed(state, table), &[], state, table)?;
-    blocks_in_view(&view, known, number, list)
+    check(&view, known, number)?;
+    let chain = view.chain();
+    over_blocks!(chain, walk => listed(&mut walk, known, number, list))
+}
+
+/// The same where the blocks of the chain hang together: no row is looked at but those between which the certificates of these blocks lie.
+/// Where the committees of these blocks' rounds are cached no block is applied.
+#[tactic(auto, unfolding(base::specs::Checks::refusal, state::specs::Answers::if_accepted, crate::specs::Listed::blocks_refusal, crate::specs::Listed::blocks_list))]
+pub fn blocks_together(
+    view: &View,
+    known: u32,
+    number: u32,
+    list: &mut [u32],
+) -> Result<u32, Refusal>
+    requires together { let v = view.now in
+        Together v.state.now.settings.ceiling v.table.now v.state.now.blocks }
+    ensures refusal { let v = view.now in
+        refusal_in result ≡ blocks_refusal v.state.now v.table.now known number (length list.old) }
+    ensures value { let v = view.now in
+        IfOk result (λ c. c ≡ length (blocks_held v.state.now v.table.now known number)) }
+    ensures list { let v = view.now in
+        list.new ≡ blocks_list v.state.now v.table.now known number list.old }
+{
+    check(view, known, number)?;
+    together::listed(view.chain(), view.cache, known, number, list)
 }

@@ -8,7 +8,7 @@ loop-i-init c = let a = c.args.walk.now.chain in
     (refl, record { so_far = omega arith; kept = refl; puts = puts_none (held-none a.settings.now a.table.now _ c.args.known) })
 
 pub start-start-requires : goal.start-start-requires
-start-start-requires c = rw c.loop-i.invariant.0 (record { before = omega (arith, c.requires.within); caches = c.requires.caches })
+start-start-requires c = rw c.loop-i.invariant.0 (omega (arith, c.requires.within))
 
 pub put-to-requires : goal.put-to-requires
 put-to-requires c = let a = c.args.walk.now.chain in

@@ -23,7 +23,7 @@ returns-clause-owned c = let s = c.in-Some.ensures in
     let f = committed-formed (engine_in w c.args.table.now) x.state x.table (low w _ _ h) h.cached.form in
     let g = ap (λ (u : State). u.settings) x.state ∙ commit-settings _ c.args.table.now in
     let p = commit-rooted _ _ h.proposal (sym x.refusal) x.state x.table in
-    rw c.put_state.ensures (committed_owned w _ _ h (sym x.refusal) x.state (record { form = f; committees = λ _. rw g x.kept }) (rw g x.rooted) p)
+    rw c.put_state.ensures (committed_owned w _ _ h (sym x.refusal) x.state (record { form = f; committees = λ _. rw g x.kept }) (rw g x.rooted) p x.together)
 
 pub returns-in_err-added-clause-owned : goal.returns-in_err-added-clause-owned
 returns-in_err-added-clause-owned c = let s = c.in-Some.ensures in
@@ -33,4 +33,4 @@ returns-in_err-added-clause-owned c = let s = c.in-Some.ensures in
     let n : refusal_for e commit ≢ 0 = λ z. some-number _ (x.refusal ∙ z) in
     let t = x.table ∙ ap (λ (z : Engine). z.table) (refused-same e commit n) in
     let b = ap (λ (z : State). z.blocks) x.state ∙ ap (λ (z : Engine). z.state.blocks) (refused-same e commit n) in
-    record { reads = h.reads; cached = rw t (record { form = h.cached.form; committees = λ _. (rw (t, b) at x.kept) }); rooted = rw t h.rooted; proposal = rw t h.proposal }
+    record { reads = h.reads; cached = rw t (record { form = h.cached.form; committees = λ _. (rw (t, b) at x.kept) }); rooted = rw t h.rooted; proposal = rw t h.proposal; together = rw t h.together }

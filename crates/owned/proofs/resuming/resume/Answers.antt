@@ -15,4 +15,5 @@ returns-clause-owned c z =
       cached = rw (← s.1) (record { form = sym x.formed; committees = λ w. caches-take _ _ _ (omega arith) c.keep_all.ensures.committees });
       rooted = rw (← s.1) x.rooted;
       proposal = rw (← s.1) x.proposal;
+      together = rw (← s.1) x.together;
     }

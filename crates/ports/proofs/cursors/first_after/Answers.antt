@@ -7,5 +7,5 @@ returns-then-walk-next c = none_beyond _ _ _ _ _ c.requires c.next_block-next.en
 
 pub returns : goal.returns
 returns c = let start = rw c.begin.ensures.chain at c.start-start.ensures.start in
-    let key = rw c.begin.ensures.chain at c.next_key-key.ensures in
+    let key = rw c.begin.ensures.chain at c.first_key-key.ensures in
     ap Some c.place_of.ensures ∙ rw start (first_beyond _ _ _ _ _ c.requires c.next_block-next.ensures.found (omega arith) _ (rw start at key))

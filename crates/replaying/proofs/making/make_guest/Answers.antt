@@ -3,7 +3,8 @@ use Rattle.terms.specs.Rights.{caller_refusal}
 use Rattle.hosting.specs.Guested.{rights_in}
 use Rattle.replaying.specs.Told.{right_of}
 use Rattle.replaying.specs.Runs.{words_of}
-use Rattle.replaying.proofs.Guests.{guest_unchanged, guest_answer, some_number}
+use Rattle.hosting.proofs.Answered.{some_number}
+use Rattle.replaying.proofs.Guests.{guest_unchanged, guest_answer}
 use Rattle.replaying.proofs.making.make_guest.Goals as goal
 
 pub returns-in-Err-clause-words : goal.returns-in-Err-clause-words
