@@ -377,6 +377,27 @@ impl Words {
     }
 }
 
+/// With the caller's port behind the last line of the block before the last one: its next byte is the last block's first.
+fn at_a_blocks_end(words: &Words) -> Option<Words> {
+    let (blocks, port) = (words.state[22], 16 + 32 * CALLER as usize);
+    if blocks < 2 {
+        return None;
+    }
+    // That line is the anchor's, which is alone in its round.
+    let round = words.table[ROW * (blocks - 1) as usize + 2];
+    let row = ROW * round as usize;
+    let author = (0..16).find(|author| words.table[row + 16 + 16 * author + 2] == blocks - 1)?;
+    let mut end = words.clone();
+    end.table[port] = 16 * round + author as u32;
+    end.table[port + 1] = 1;
+    let mut read = end.clone();
+    while read.table[port] == end.table[port] {
+        end = read.clone();
+        owner::guest_port_read(CALLER, &read.state, &mut read.table, &read.kept, 0);
+    }
+    Some(end)
+}
+
 fn ports(name: &str, words: &Words, pace: &Pace) {
     let mut read = words.clone();
     let take = |read: &mut Words| owner::guest_port_read(CALLER, &read.state, &mut read.table, &read.kept, 0);
@@ -393,6 +414,9 @@ fn ports(name: &str, words: &Words, pace: &Pace) {
         take(&mut read);
     }
     reading("port read at a line's end", &end, 0);
+    if let Some(end) = at_a_blocks_end(words) {
+        reading("port read at a block's end", &end, 0);
+    }
     pace.print(name, words, &row!("port write", guest_port_write, w, _o; 0; CALLER, &w.state, &mut w.table; 7, 9; plain_answer));
 }
 

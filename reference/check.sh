@@ -8,7 +8,7 @@
 # weights add up after every commit, and the register of plant owners (tools/register) with
 # them; that no bond moves a share further than its bound; that guests get their turn over
 # long runs, and that what ports have given is a prefix of the listing. A runner given in
-# RUNNER is compared with the reference as well.
+# RUNNER is compared with the reference as well. As many seeds at a time as there are processors.
 if [ -n "${RUNNER:-}" ]; then
     if [ -f "$RUNNER" ]; then
         RUNNER=$(cd "$(dirname "$RUNNER")" && pwd)/$(basename "$RUNNER")
@@ -29,30 +29,47 @@ for runner in bin/runner_ref "python3 naive.py" $RUNNER; do
     done
 done
 python3 margins.py > /dev/null || differs margins
-mkdir -p out
-python3 shares.py 1000 > out/pairs
-bin/shares < out/pairs > out/shares
-python3 naive.py shares < out/pairs | cmp - out/shares || differs shares
+out=$(mktemp -d) || exit 2
+trap 'rm -r "$out"' EXIT
+python3 shares.py 1000 > "$out/pairs"
+bin/shares < "$out/pairs" > "$out/shares"
+python3 naive.py shares < "$out/pairs" | cmp - "$out/shares" || differs shares
 bin/lookups | cmp - ../crates/lookups/stdout || differs lookups
 bin/fair || differs fair
 bin/received || differs received
-for seed in $(seq "${2:-1}" "${1:-50}"); do
-    bin/shuffle "$seed" > out/stream
-    bin/runner_ref < out/stream > out/expected
-    bin/ledger < out/stream > out/ledger || { cat out/ledger; differs "weights of seed $seed"; }
-    for runner in "python3 naive.py" $RUNNER; do
-        $runner < out/stream | cmp - out/expected || differs "seed $seed"
+
+# Every PARTS-th seed from FROM on: seeds FROM. What differs is told; the number of each seed goes into a file.
+seeds() (
+    mkdir "$out/$1"
+    cd "$out/$1" || exit 1
+    ref=$OLDPWD
+    for seed in $(seq "$1" "$parts" "$last"); do
+        "$ref/bin/shuffle" "$seed" > stream
+        "$ref/bin/runner_ref" < stream > expected
+        "$ref/bin/ledger" < stream > ledger || { cat ledger; differs "weights of seed $seed"; }
+        for runner in "python3 $ref/naive.py" $RUNNER; do
+            $runner < stream | cmp - expected || differs "seed $seed"
+        done
+        for name in batches queues previews criticals rights effects serial; do
+            python3 "$ref/$name.py" "$seed" > stream
+            "$ref/bin/$name" < stream > expected || differs "bin/$name of seed $seed"
+            python3 "$ref/naive.py" "$name" < stream | cmp - expected || differs "$name of seed $seed"
+        done
+        echo "$seed" >> done
     done
-    for name in batches queues previews criticals rights effects serial; do
-        python3 "$name.py" "$seed" > out/stream
-        "bin/$name" < out/stream > out/expected || differs "bin/$name of seed $seed"
-        python3 naive.py "$name" < out/stream | cmp - out/expected || differs "$name of seed $seed"
-    done
-done
+)
 first=${2:-1}
-for runner in bin/runner_ref $RUNNER; do
-    python3 owners.py "$runner" bin/committees $((${1:-50} - first + 1)) "$first" || differs register
+last=${1:-50}
+parts=$(nproc)
+for part in $(seq "$first" $((first + parts - 1))); do
+    seeds "$part" > "$out/told-$part" 2>&1 &
 done
-rm -r out
+wait
+cat "$out"/told-*
+cat "$out"/told-* | grep -q . && status=1
+[ "$(cat "$out"/*/done | wc -l)" = $((last - first + 1)) ] || differs "not every seed was run"
+for runner in bin/runner_ref $RUNNER; do
+    python3 owners.py "$runner" bin/committees $((last - first + 1)) "$first" || differs register
+done
 [ $status = 0 ] && echo all the same
 exit $status

@@ -39,7 +39,7 @@ reference() {
     if [ -x "$runner" ]; then RUNNER=$runner sh reference/check.sh "$seeds"; else sh reference/check.sh "$seeds"; fi
 }
 
-mutants() { python3 reference/mutants.py 100; }
+mutants() { python3 reference/mutants.py 20; }
 
 streams() {
     [ -x "$runner" ] || { lacks "$runner" "cd crates/runner && rt run < /dev/null"; return 1; }
@@ -49,8 +49,14 @@ streams() {
         python3 reference/members.py "$runner" "$members"
 }
 
+# The pages name the tool and run it.
 pages() {
-    [ -f "$archive" ] || echo "without $archive: examples in C and Rust are only compiled"
+    if [ -f "$archive" ]; then
+        FORGELILAC_ARCHIVE=$archive CARGO_NET_OFFLINE=true \
+            cargo build -q --release --locked --manifest-path tools/forgelilac/Cargo.toml || return 1
+    else
+        echo "without $archive: examples in C and Rust are only compiled"
+    fi
     if [ -x "$runner" ]; then RUNNER=$runner ARCHIVE=$archive sh scripts/pages.sh; else ARCHIVE=$archive sh scripts/pages.sh; fi
 }
 
@@ -90,7 +96,7 @@ hosts() {
 
 lacks() { echo "there is no $1: make it by '$2'"; }
 
-seeds=500 streams=2500 damaged=30000 members=1000 seeds_of_hosts=20 calls=1000000
+seeds=200 streams=2500 damaged=30000 members=1000 seeds_of_hosts=20 calls=1000000
 steps="gate archive runner replayer reference mutants streams pages packages tool plant hosts"
 case ${1:-} in
     fast)

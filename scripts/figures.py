@@ -121,9 +121,9 @@ def owned(calls, by=3):
     return least if least == most else f"{least} to {most}"
 
 
-def owners_line(name, calls, plain=True):
+def owners_line(name, calls):
     """A line of docs/PERFORMANCE.md's table of owner's calls."""
-    return ("docs/PERFORMANCE.md", f"| {name} | {{owned({calls!r})}} | " + (f"{{owned({calls!r}, 4)}} |" if plain else "|"))
+    return ("docs/PERFORMANCE.md", f"| {name} | {{owned({calls!r})}} | {{owned({calls!r}, 4)}} |")
 
 
 def quarters(call):
@@ -178,11 +178,6 @@ def public():
     numbers = [round(int(cells[5]), -3) for (_, state), cells in OWNERS.items()
                if state == "full" and cells[5].isdigit() and "many blocks" not in cells[0] and "block rows" not in cells[0]]
     return f"{min(numbers):,} to {max(numbers):,}"
-
-
-def resume(state):
-    """Microseconds of a resume at a ceiling of 1,024."""
-    return f"{float(re.findall(rf'^Resume, {state}: ([0-9.]+) us', text('bench/FIGURES.md'), re.MULTILINE)[-1]):.0f}"
 
 
 def stored(by, ceiling):
@@ -267,7 +262,7 @@ PUT = {"us": us, "times_plain": times_plain, "batch": batch, "batch_ms": batch_m
        "processor": processor, "to_a_fork": to_a_fork, "archive": archive, "owned": owned,
        "quarters": quarters, "stored": stored, "store_and_load": store_and_load, "digested": digested,
        "records": records, "ratios": ratios, "chosen": chosen, "on_empty": on_empty, "more_on_empty": more_on_empty,
-       "ports_in_use": ports_in_use, "batch_to_plain": batch_to_plain, "public": public, "resume": resume}
+       "ports_in_use": ports_in_use, "batch_to_plain": batch_to_plain, "public": public}
 
 READS = "'read certificate; read block; enqueue'"
 STANDING = "'advance; read committee; read share'"
@@ -326,7 +321,6 @@ PAGES = [
     owners_line("batch of 64, four rounds to hold", "batch of 64, four rounds to hold"),
     owners_line("port read in a line", "port read in a line"),
     owners_line("port read at a line's end", "port read at a line's end"),
-    owners_line("block rows of the last block", "block rows, the last block", False),
     ("docs/PERFORMANCE.md", "each of its four quarters: accept {quarters('accept')}, advance {quarters('advance')}, "
                             "propose {quarters('propose')}, certify {quarters('certify')}, commit {quarters('commit')} "),
     ("docs/PERFORMANCE.md", "take {rounded(batch(1024, 'engine', 4))} us at a full ceiling of 1,024 "
@@ -353,8 +347,6 @@ PAGES = [
     ("docs/PERFORMANCE.md", "some {ports_in_use(8)} us a port, {ports_in_use()} us for eight."),
     ("docs/PERFORMANCE.md", "On an empty state calls take {on_empty()} us, by the ceiling"),
     ("docs/PERFORMANCE.md", "beside which the public calls took {public()}."),
-    ("docs/PERFORMANCE.md", "A resume takes {resume('empty')} us on an empty state of that ceiling, {resume('half')} half full and "
-     "{resume('full')} full."),
     ("docs/PERFORMANCE.md", f"- Calls that work out a committee are {{ratios({WALKING}, 'full')}} times plain on full states, and "
      f"{{ratios({WALKING}, 'half')}} on half full ones."),
     ("docs/PERFORMANCE.md", "- A batch is {batch_to_plain(64, 'half')} times plain on half a state of ceiling 64, and "
