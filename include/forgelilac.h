@@ -706,11 +706,11 @@ uint32_t forgelilac_guest_port_write(uint32_t caller,
  * writes a member's words need not pay for that with each call. It keeps one stretch more with state and
  * table, the kept committees, and makes the owner's call, forgelilac_owned_..., in place of forgelilac_...:
  * the same parameters, with the kept committees behind the table. It does and answers what the other one
- * does, with the same refusals, and takes the same little time however much is held. Of a commit, a
- * preview and a batch that goes by how many blocks, entries and certificates there are; block rows
- * and the chain that is made of them look at the mark of all that is held, and a guest's read of its port
- * at a block's end looks for the next block's first line from round 1 up. docs/HOSTS.md, "A host that owns its words", tells when to
- * use them.
+ * does, with the same refusals, and takes the same little time however much is held. What a commit, a
+ * preview, a batch, block rows and the chain that is made of them take goes by how many blocks, entries and
+ * certificates there are; what a guest's read of its port takes at a line's end, by how many rounds its
+ * block and the next one have certificates in. docs/HOSTS.md, "A host that owns its words", tells when to use
+ * them.
  *
  * The premise of each: the words are owned. Words are owned from an accepted forgelilac_owned_resume on, as
  * long as state, table and kept committees are, word for word, as the last call on this member left them, be it
@@ -735,10 +735,12 @@ uint32_t forgelilac_guest_port_write(uint32_t caller,
 /* Tests the words once and fills the kept committees, which need not be set before: from here on the
  * words are owned. 1 where words of the state cannot be read, where the state is not well formed with its
  * table, where a held certificate or the proposal names one that is not held, or one in a block names one
- * in none, and where the kept committees are too short: then no word is written, and the words are not
- * owned. State and table are only read. It makes the test that one call above makes, a look at whom each
- * certificate names, and one walk for the committees. On owned words with a stretch long enough it answers 0 at
- * any time, so made now and then it is a check of their bits. */
+ * in none, where a block has a certificate above its own round, or one in a round below and none in the round
+ * after, and where the kept committees are too short: then no word is written, and the words are not owned. No
+ * calls lead to words whose histories or blocks are so. State and table are only read. It makes the test that
+ * one call above makes, a look at whom each certificate names and at each one's mark, and one walk for the
+ * committees. On owned words with a stretch long enough it answers 0 at any time, so made now and then it is a
+ * check of their bits. */
 FORGELILAC_CHECKED FORGELILAC_READS(1, 2) FORGELILAC_READS(3, 4) FORGELILAC_WRITES(5, 6)
 uint32_t forgelilac_owned_resume(const uint32_t *state, size_t state_words,
                                  const uint32_t *table, size_t table_words,

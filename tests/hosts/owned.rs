@@ -10,8 +10,8 @@
 //!
 //! Stretches start from openings and from states grown by runs of the reference, with ceilings of 3 to 1,024,
 //! or of LEAST to MOST. At times words are changed, or chains made up: whether a resume takes them is judged
-//! here, from what docs/RULES.md and docs/TABLES.md say of a state, and by whole histories; where it does,
-//! calls go on there for a while, in states that no run leaves too.
+//! here, from what docs/RULES.md and docs/TABLES.md say of a state, by whole histories and by blocks that hang
+//! together. Where it does, calls go on there for a while, in states that no run leaves too.
 
 #![allow(dead_code)]
 
@@ -157,6 +157,15 @@ fn has_whole_histories(member: &Member) -> bool {
     (1..=member.settings().ceiling)
         .all(|round| members_of(member.held_authors(round)).all(|author| is_whole(round, author)))
         && member.proposal().is_none_or(|proposal| all_held(proposal.previous, proposal.round))
+}
+
+/// Whether no block of a well-formed state has a certificate above its own round, and each that has some in a
+/// round below it has some in the round after: so a resume takes only such.
+fn hangs_together(member: &Member) -> bool {
+    member.chain().iter().all(|block| {
+        let rounds: std::collections::HashSet<u32> = block.certificates.iter().map(|place| place.0).collect();
+        rounds.iter().all(|round| *round == block.round || *round < block.round && rounds.contains(&(round + 1)))
+    })
 }
 
 // --------------------------------------------------------------- the test ---
@@ -364,7 +373,7 @@ impl Test {
             _ => change_word(&mut self.rng, &hint, &mut copy.state, &mut copy.table),
         }
         copy.read_again();
-        let whole = copy.twin.as_ref().is_some_and(has_whole_histories);
+        let whole = copy.twin.as_ref().is_some_and(|member| has_whole_histories(member) && hangs_together(member));
         let ceiling = copy.state[2].min(2_000);
         let needed = kept_words(ceiling);
         let too_short = self.rng.chance(100);

@@ -18,9 +18,9 @@ use core::fmt;
 /// itself, so engines may be called from several threads at once, each by one at a time.
 ///
 /// An `Engine` owns its words, and nothing else writes them: they are tested once, when it is opened or
-/// restored, and a call then takes the same little time however much is held; a chain and block rows
-/// look at the mark of all that is held, and a port read at a block's end looks from round 1 up. For that it keeps the
-/// committees of the rounds it knows too, [`crate::layout::kept_words`] of them in words of 64 bits.
+/// restored, and a call then takes the same little time however much is held: a chain, block rows and a port
+/// read go by the blocks that they show. For that it keeps the committees of the rounds it knows too,
+/// [`crate::layout::kept_words`] of them in words of 64 bits.
 /// [`Engine::is_well_formed`] tests again, for a host that fears for its memory. An `Engine<Lent>` tests its
 /// words in each call, as the calls of [`lent`] do, and so may have any: see [`Engine::lent`].
 ///
@@ -81,7 +81,8 @@ impl Engine {
     ///
     /// # Errors
     /// [`Refusal::Malformed`] where the state is not well formed, and where it is and no calls leave it so: a
-    /// held certificate or the proposal names one that is not held, or one in a block names one in none.
+    /// held certificate or the proposal names one that is not held, one in a block names one in none, or a block
+    /// has a certificate above its own round, or one in a round below and none in the round after.
     pub fn try_restore(state: [u32; STATE_WORDS], table: Vec<u32>) -> Result<Engine, Refusal> {
         Owned::resume(state, table).map(Engine::from)
     }

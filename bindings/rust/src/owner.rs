@@ -36,8 +36,7 @@ impl Owned {
     /// Tests the words once; from here on they are owned.
     ///
     /// # Errors
-    /// [`Refusal::Malformed`] where the state is not well formed, or a held certificate or the proposal names
-    /// one that is not held, or one in a block names one in none.
+    /// Those of [`Engine::try_restore`](crate::Engine::try_restore).
     pub(crate) fn resume(state: [u32; STATE_WORDS], table: Vec<u32>) -> Result<Owned, Refusal> {
         let kept = resume(&state, &table)?;
         Ok(Owned { state, table, kept })

@@ -20,7 +20,8 @@ pub enum FromBytesError {
     Format(u32),
     /// Fewer or more bytes than the lengths in front ask for, or a state of another length.
     Length,
-    /// The words are no member's as calls leave them: the state is not well formed, or histories are not whole.
+    /// The words are no member's as calls leave them: the state is not well formed, histories are not
+    /// whole, or blocks do not hang together.
     Malformed,
 }
 

@@ -61,7 +61,8 @@ pub fn formed(words: &Words) -> Result<Engine, Failure> {
         None => words.engine().or_else(|_| {
             input(
                 "the stored words are well formed, and no calls leave them so: a certificate or the proposal names one \
-                 that is not held, or one in a block names one in none",
+                 that is not held, one in a block names one in none, or a block has a certificate above its own round, \
+                 or one in a round below and none in the round after",
             )
         }),
     }

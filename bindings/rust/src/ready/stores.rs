@@ -127,7 +127,8 @@ pub enum RestoreError {
     Torn,
     /// No engine's bytes.
     Bytes(FromBytesError),
-    /// The words are no member's as calls leave them: the state is not well formed, or histories are not whole.
+    /// The words are no member's as calls leave them: the state is not well formed, histories are not
+    /// whole, or blocks do not hang together.
     Malformed,
     /// The words are those of this member.
     OtherMember(Member),

@@ -66,10 +66,10 @@ fn kept_committees_stay_those_of_the_words() {
     }
 }
 
-/// Well formed is not enough: what is held names what is held, what is in a block names what is in one, and
-/// so does the proposal.
+/// Well formed is not enough: what is held names what is held, and so does the proposal; what is in a block
+/// names what is in one; and a block's certificates lie in rounds one after the other, from its own down.
 #[test]
-fn a_restore_asks_for_whole_histories() {
+fn a_restore_asks_for_whole_histories_and_blocks_that_hang_together() {
     let mut engine = of_four(0);
     for round in 1..=3 {
         let previous = if round == 1 { 0 } else { 0b1111 };
@@ -94,8 +94,13 @@ fn a_restore_asks_for_whole_histories() {
     assert_eq!(restored(|state, _, _| state[STATE_BODY] = 0b1111), malformed);
     // The anchor of round 2 is in the block, and of round 1 one is taken out that it names.
     assert_eq!(restored(|_, table, [first, _, _]| table[first + RECORD_BLOCK] = 0), malformed);
-    // Without the anchor in it the block is whole, if odd.
-    assert!(restored(|_, table, [_, second, _]| table[second + RECORD_BLOCK] = 0).is_ok());
+    // Without the anchor the block has certificates of round 1 alone, and is of round 2.
+    assert_eq!(restored(|_, table, [_, second, _]| table[second + RECORD_BLOCK] = 0), malformed);
+    // One of round 3, above the block's own, is put into it, which names the anchor alone.
+    let put_above = |_: &mut [u32; STATE_WORDS], table: &mut [u32], [_, _, third]: [usize; 3]| {
+        (table[third], table[third + RECORD_BLOCK]) = (0b0010, 1);
+    };
+    assert_eq!(restored(put_above), malformed);
 }
 
 /// Equal by state and table, however their committees came to be kept.
