@@ -38,26 +38,26 @@ bin/lookups | cmp - ../crates/lookups/stdout || differs lookups
 bin/fair || differs fair
 bin/received || differs received
 
-# Every PARTS-th seed from FROM on: seeds FROM. What differs is told; the number of each seed goes into a file.
-seeds() (
-    mkdir "$out/$1"
-    cd "$out/$1" || exit 1
-    ref=$OLDPWD
+# One part of the seeds: from the given one on as many further as there are parts. Tells what differs, and notes
+# each seed when it is done.
+seeds() {
+    at=$out/$1
+    mkdir "$at"
     for seed in $(seq "$1" "$parts" "$last"); do
-        "$ref/bin/shuffle" "$seed" > stream
-        "$ref/bin/runner_ref" < stream > expected
-        "$ref/bin/ledger" < stream > ledger || { cat ledger; differs "weights of seed $seed"; }
-        for runner in "python3 $ref/naive.py" $RUNNER; do
-            $runner < stream | cmp - expected || differs "seed $seed"
+        bin/shuffle "$seed" > "$at/stream"
+        bin/runner_ref < "$at/stream" > "$at/expected"
+        bin/ledger < "$at/stream" > "$at/ledger" || { cat "$at/ledger"; differs "weights of seed $seed"; }
+        for runner in "python3 naive.py" $RUNNER; do
+            $runner < "$at/stream" | cmp - "$at/expected" || differs "seed $seed"
         done
         for name in batches queues previews criticals rights effects serial; do
-            python3 "$ref/$name.py" "$seed" > stream
-            "$ref/bin/$name" < stream > expected || differs "bin/$name of seed $seed"
-            python3 "$ref/naive.py" "$name" < stream | cmp - expected || differs "$name of seed $seed"
+            python3 "$name.py" "$seed" > "$at/stream"
+            "bin/$name" < "$at/stream" > "$at/expected" || differs "bin/$name of seed $seed"
+            python3 naive.py "$name" < "$at/stream" | cmp - "$at/expected" || differs "$name of seed $seed"
         done
-        echo "$seed" >> done
+        echo "$seed" >> "$at/done"
     done
-)
+}
 first=${2:-1}
 last=${1:-50}
 parts=$(nproc)
