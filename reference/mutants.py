@@ -1,28 +1,28 @@
 #!/usr/bin/env python3
-"""Spoils the reference in one place at a time and counts which streams
-notice: the edge stream and the shuffled streams of seeds 1 to N. No record
-reads a share, is a batch, adds to a queue, draws, is a preview, lists what a
-commit hangs on, is a guest's, tells what a bond does or accesses a port: wrong rules of
-shares are given pairs of weight and total, wrong rules of batches rows of certificates,
-wrong rules of queues streams with draws, wrong previews, wrong lists and wrong effects
-streams in which they are asked for, wrong rights streams in which guests call, wrong ports
-streams in which they are accessed, and what they answer is compared with naive.py. Wrong
-ledgers, wrong registers and committees that do not add up are given seeds 1 to N: it
-counts in how many the ledger, and whether a register, is other than the committees, or
-whether a register takes what it must refuse. Of queues it also says whether fair finds
-a fault, of ports whether received does, of previews, lists, rights, effects and ports
-whether the unit tests do: no stream comes to a state that no run reaches. Of a wrong rule
-of advance or of the margin that no stream notices it says whether the unit tests do: none
-of the streams comes to hold an outsider.
+"""Spoils the reference in one place at a time, and says what tells: the
+edge stream and the shuffled streams of seeds 1 to N. No record reads a
+share, is a batch, adds to a queue, draws, is a preview, lists what a commit
+hangs on, is a guest's, tells what a bond does or accesses a port: wrong rules
+of these are given pairs of weight and total, rows of certificates, and streams
+with draws, previews, lists, guests' calls, reads of effects and accesses, and
+what they answer is compared with naive.py. Wrong ledgers, wrong registers and
+committees that do not add up are given seeds 1 to N: it counts in how many the
+ledger, and whether a register, is other than the committees, or whether a
+register takes what it must refuse. Of queues it also says whether fair finds a
+fault, of ports whether received does. Where none of these tells, the unit
+tests are asked: no stream comes to hold an outsider, or to a state that no run
+reaches.
 
     mutants.py N [SORT]        (build.sh first; works in the directory target/mutants)
 
 With SORT only that one: share, batch, queue, preview, critical, right, effect, port,
-ledger, advance, margin or rule.
+ledger, advance, margin or rule. JOBS says how many are tried at a time.
 
-Six of the changes cannot show in a runner's answers; they are marked same.
+Six of the changes cannot show in a runner's answers; they are marked same. Status 1
+where another is told by nothing, where one of the six is told, and where one cannot
+be tried.
 """
-import json, os, shutil, subprocess, sys
+import json, os, shutil, subprocess, sys, threading
 from concurrent.futures import ThreadPoolExecutor
 base = os.path.dirname(os.path.abspath(__file__))
 SAME = {4, 12, 45, 46, 49, 52}
@@ -920,6 +920,12 @@ L=[
 work = os.path.join(base, 'target', 'mutants')
 good = os.path.join(base, 'bin', 'runner_ref')
 TESTS = 'tests_ref'
+# Each program is built once and run for seconds.
+QUICK = {'CARGO_INCREMENTAL': '1', 'CARGO_PROFILE_RELEASE_CODEGEN_UNITS': '16', 'CARGO_PROFILE_RELEASE_OPT_LEVEL': '1'}
+
+
+class Untried(Exception):
+    """A change that cannot be tried, and why."""
 
 
 def answers(runner, stream):
@@ -939,74 +945,59 @@ edge = open(os.path.join(base, 'edges', 'edge.stream'), 'rb').read()
 edge_expected = open(os.path.join(base, 'edges', 'edge.expected'), 'rb').read()
 
 
-def spoilt(place, programs, name, old, new):
-    """Programs of the package with a change, by name; None and why where there is none."""
-    place = os.path.join(work, place)
-    source = os.path.join(place, 'src', name)
-    shutil.copytree(os.path.join(base, 'src'), os.path.join(place, 'src'), ignore=shutil.ignore_patterns('bin'), dirs_exist_ok=True)
-    os.makedirs(os.path.join(place, 'src', 'bin'), exist_ok=True)
-    os.makedirs(os.path.join(place, 'tests'), exist_ok=True)
-    paths = [os.path.join('tests' if one == TESTS else 'src/bin', one + '.rs') for one in programs]
-    for path in ['Cargo.toml', 'Cargo.lock', 'example.stream'] + paths:
-        shutil.copy(os.path.join(base, path), os.path.join(place, path))
-    text = open(source).read()
+def spoil(text, old, new):
     if text.count(old) != 1:
-        return None, 'the text to spoil is there %d times' % text.count(old)
-    open(source, 'w').write(text.replace(old, new))
+        raise Untried('the text to spoil is there %d times' % text.count(old))
+    return text.replace(old, new)
+
+
+def spoilt(programs, name, old, new):
+    """Programs of the package with a change, by name. Each thread builds in a directory of its own."""
+    place = os.path.join(work, str(threading.get_ident()))
+    for directory in ['src', 'tests']:
+        # Files as new as the change, so that the last one is built out again.
+        shutil.copytree(os.path.join(base, directory), os.path.join(place, directory), copy_function=shutil.copy, dirs_exist_ok=True)
+    for path in ['Cargo.toml', 'Cargo.lock', 'example.stream']:
+        shutil.copy(os.path.join(base, path), place)
+    text = spoil(open(os.path.join(base, 'src', name)).read(), old, new)
+    open(os.path.join(place, 'src', name), 'w').write(text)
     build = ['cargo', 'build', '--release', '--offline', '--locked', '--quiet', '--jobs', '1', '--target-dir', 'target',
              '--message-format', 'json']
     for one in programs:
         build += ['--test' if one == TESTS else '--bin', one]
-    built = subprocess.run(build, cwd=place, capture_output=True, text=True)
+    built = subprocess.run(build, cwd=place, capture_output=True, text=True, env={**os.environ, **QUICK})
     if built.returncode:
-        return None, 'does not build'
+        raise Untried('does not build')
     messages = [json.loads(line) for line in built.stdout.splitlines()]
-    return {message['target']['name']: message['executable'] for message in messages if message.get('executable')}, ''
+    return {message['target']['name']: message['executable'] for message in messages if message.get('executable')}
 
 
 def fails(program, *arguments):
-    return 'yes' if subprocess.run([program, *arguments], capture_output=True).returncode != 0 else 'no'
+    return subprocess.run([program, *arguments], capture_output=True).returncode != 0
 
 
-def noticed(runner):
-    """Which streams notice, and whether any does."""
+def one_rule(*change):
+    """By how many streams a change is told, and whether by the edges."""
+    runner = spoilt(['runner_ref'], *change)['runner_ref']
     seeds = sum(answers(runner, s) != expected for s, expected in streams)
     in_edge = answers(runner, edge) != edge_expected
-    said = 'edge stream %s, %d of %d seeds' % ('yes' if in_edge else 'no', seeds, len(streams))
-    return said, in_edge or seeds > 0
-
-
-def one_rule(place, *change):
-    programs, why = spoilt(place, ['runner_ref'], *change)
-    return why if programs is None else noticed(programs['runner_ref'])[0] + (' (same)' if change in SAME else '')
-
-
-def or_tests(place, *change):
-    """Which streams notice, and where none does, whether the unit tests do."""
-    programs, why = spoilt(place, ['runner_ref'], *change)
-    if programs is None:
-        return why
-    by_streams, found = noticed(programs['runner_ref'])
-    if found:
-        return by_streams
-    tests, why = spoilt('tests-' + place, [TESTS], *change)
-    return '%s, tests %s' % (by_streams, why if tests is None else fails(tests[TESTS], '-q'))
+    return 'edge stream %s, %d of %d seeds' % ('yes' if in_edge else 'no', seeds, len(streams)), in_edge or seeds > 0
 
 
 # What no record asks, by sort of change: the stream, by which its script, its program and naive.py's answers are named; the
-# seeds; a program that looks for faults of its own; whether the unit tests are asked.
+# seeds; a program that looks for faults of its own.
 ASKED = {
-    'share': ('shares', [300], None, False),
-    'batch': ('batches', range(1, 31), None, False),
-    'queue': ('queues', range(1, 41), ('fair', '20'), False),
-    'preview': ('previews', range(1, 21), None, True),
-    'critical': ('criticals', range(1, 21), None, True),
-    'right': ('rights', range(1, 13), None, True),
-    'effect': ('effects', range(1, 13), None, True),
-    'port': ('serial', range(1, 7), ('received', '1', '2000'), True),
+    'share': ('shares', [300], None),
+    'batch': ('batches', range(1, 31), None),
+    'queue': ('queues', range(1, 41), ('fair', '20')),
+    'preview': ('previews', range(1, 21), None),
+    'critical': ('criticals', range(1, 21), None),
+    'right': ('rights', range(1, 13), None),
+    'effect': ('effects', range(1, 13), None),
+    'port': ('serial', range(1, 7), ('received', '1', '2000')),
 }
 given, right = {}, {}
-for sort, (stream, seeds, _, _) in ASKED.items():
+for sort, (stream, seeds, _) in ASKED.items():
     if wanted(sort):
         given[sort] = b''.join(answers([sys.executable, os.path.join(base, stream + '.py'), str(seed)], b'') for seed in seeds)
         if sort == 'batch':
@@ -1016,45 +1007,56 @@ for sort, (stream, seeds, _, _) in ASKED.items():
 
 
 def one_asked(sort):
-    program, _, other, tests = ASKED[sort]
-    programs = [program] + ([other[0]] if other else []) + ([TESTS] if tests else [])
+    program, _, other = ASKED[sort]
 
-    def one(place, *change):
-        built, why = spoilt(place, programs, *change)
-        if built is None:
-            return why
+    def one(*change):
+        built = spoilt([program] + ([other[0]] if other else []), *change)
         # It may end before the last line.
         same = sum(a == b for a, b in zip(answers(built[program], given[sort]).splitlines(), right[sort]))
+        told = len(right[sort]) > same
         said = '%d of %d lines' % (len(right[sort]) - same, len(right[sort]))
         if other:
-            said += ', %s %s' % (other[0], fails(built[other[0]], *other[1:]))
-        return said + (', tests ' + fails(built[TESTS], '-q') if tests else '')
+            by_other = fails(built[other[0]], *other[1:])
+            told, said = told or by_other, said + ', %s %s' % (other[0], 'yes' if by_other else 'no')
+        return said, told
     return one
 
 
-def one_register(place, name, old, new):
-    place = os.path.join(work, place)
+def one_ledger(*change):
+    """In how many streams wrong committees or a wrong ledger are told."""
+    ledger = spoilt(['ledger'], *change)['ledger']
+    # 1 is a difference; a program that breaks off has told nothing.
+    found = sum(subprocess.run([ledger], input=stream, capture_output=True).returncode == 1 for stream, _ in streams)
+    return '%d of %d seeds' % (found, len(streams)), found > 0
+
+
+def one_register(name, old, new):
+    """Whether a wrong register is told, by its listings or by what it must refuse."""
+    place = os.path.join(work, 'register-%d' % threading.get_ident())
     os.makedirs(place, exist_ok=True)
-    text = open(os.path.join(base, '..', 'tools', 'register', name)).read()
-    if text.count(old) != 1:
-        return 'the text to spoil is there %d times' % text.count(old)
-    open(os.path.join(place, name), 'w').write(text.replace(old, new))
+    text = spoil(open(os.path.join(base, '..', 'tools', 'register', name)).read(), old, new)
+    open(os.path.join(place, name), 'w').write(text)
     compared = [sys.executable, os.path.join(base, 'owners.py'), good, os.path.join(base, 'bin', 'committees'),
                 str(len(streams)), '1', os.path.join(place, name)]
     done = subprocess.run(compared, capture_output=True, text=True)
-    return 'noticed: ' + done.stderr.strip()[:60] if done.returncode and 'Traceback' not in done.stderr else 'no'
+    told = done.returncode != 0 and 'Traceback' not in done.stderr
+    return 'told: ' + done.stderr.strip()[:60] if told else 'no', told
 
 
-def one_ledger(place, name, *change):
-    """In how many streams a wrong ledger or wrong committees are noticed; of a register, whether it is."""
-    if name == 'register.py':
-        return one_register(place, name, *change)
-    programs, why = spoilt(place, ['ledger'], name, *change)
-    if programs is None:
-        return why
-    # 1 is a difference; a program that breaks off has noticed nothing.
-    found = sum(subprocess.run([programs['ledger']], input=stream, capture_output=True).returncode == 1 for stream, _ in streams)
-    return '%d of %d seeds' % (found, len(streams))
+def tried(sort, change):
+    """What tells a change, and whether that is as it should be. The unit tests are asked last, since they take longest."""
+    try:
+        if change[0] == 'register.py':
+            return one_register(*change)
+        said, told = (ONES.get(sort) or one_asked(sort))(*change)
+        if change in SAME:
+            return said + ' (same)', not told
+        if not told:
+            told = fails(spoilt([TESTS], *change)[TESTS], '-q')
+            said += ', tests %s' % ('yes' if told else 'no')
+        return said, told
+    except Untried as why:
+        return str(why), False
 
 
 def of_rules(changes):
@@ -1065,16 +1067,18 @@ SAME = {M[i] for i in SAME}
 CHANGES = [('share', of_rules(S)), ('batch', of_rules(B)), ('queue', of_rules(Q)), ('preview', of_rules(P)), ('critical', of_rules(K)),
            ('right', of_rules(W)), ('effect', of_rules(E)), ('port', U), ('ledger', L), ('advance', of_rules(A)), ('margin', G),
            ('rule', M)]
-OTHERS = {'ledger': one_ledger, 'advance': or_tests, 'margin': or_tests, 'rule': one_rule}
-with ThreadPoolExecutor(int(os.environ.get('JOBS', 4))) as pool:
+ONES = {'ledger': one_ledger, 'advance': one_rule, 'margin': one_rule, 'rule': one_rule}
+count, wrong = 0, 0
+with ThreadPoolExecutor(int(os.environ.get('JOBS', os.cpu_count()))) as pool:
     for sort, changes in CHANGES:
         if not wanted(sort):
             continue
-        try_one = OTHERS.get(sort) or one_asked(sort)
-        results = pool.map(lambda i: try_one('%s%d' % (sort, i), *changes[i]), range(len(changes)))
-        for i, result in enumerate(results):
-            name, old, new = changes[i]
+        results = pool.map(lambda change: tried(sort, change), changes)
+        for i, ((name, old, new), (said, as_due)) in enumerate(zip(changes, results)):
             # Of an advance, a list or a margin the end tells more.
             short = slice(-60, None) if sort in ('advance', 'preview', 'critical', 'margin') else slice(44)
-            print(sort, i, name, repr(old[short]), '->', repr(new[short]), ':', result, flush=True)
+            print(sort, i, name, repr(old[short]), '->', repr(new[short]), ':', said, '' if as_due else 'WRONG', flush=True)
+            count, wrong = count + 1, wrong + (not as_due)
 shutil.rmtree(work)
+print('%d wrong references, %d of them not as they should be' % (count, wrong))
+sys.exit(wrong > 0)

@@ -224,7 +224,9 @@ def wrong_blocks(blocks, rng):
     if at + 1 < len(blocks):                    # left out
         yield blocks[:at] + blocks[at + 1:]
     number, round, author = str(len(blocks) + 1), blocks[-1][-1][1], blocks[-1][-1][3]
-    yield blocks + [[[number, round, round, str((int(author) + 1) % 16)]]]
+    beside = [round, round, str((int(author) + 1) % 16)]
+    yield blocks[:-1] + [blocks[-1] + [blocks[-1][-1][:1] + beside]]    # two of the last round, which no other block has
+    yield blocks + [[[number, *beside]]]
     yield blocks + [[[number, '1024', '1024', '0']]]
 
 

@@ -9,6 +9,8 @@ use plant::run::{listed, play, recorded, Outcome};
 use plant::shrink::shrink;
 use plant::world::PlantParts;
 use plant::{records, tally::Tally};
+use std::fmt::Display;
+use std::io::{self, Write};
 use std::path::Path;
 use std::process::ExitCode;
 use std::time::{Duration, Instant};
@@ -17,10 +19,7 @@ use std::{env, fs};
 fn main() -> ExitCode {
     let words: Vec<_> = env::args().skip(1).collect();
     let done = match Command::of(&words) {
-        Ok(Command::Help) => {
-            println!("{HELP}");
-            return ExitCode::SUCCESS;
-        }
+        Ok(Command::Help) => say(HELP).map(|()| true),
         Ok(Command::Run(options)) => run(&options),
         Ok(Command::Seeds(options)) => seeds(&options),
         Ok(Command::Shrink(options)) => short(&options),
@@ -34,6 +33,11 @@ fn main() -> ExitCode {
             ExitCode::from(2)
         }
     }
+}
+
+/// A line on standard output, which may be closed.
+fn say(line: impl Display) -> Result<(), String> {
+    writeln!(io::stdout(), "{line}").map_err(|error| format!("cannot write the result: {error}"))
 }
 
 fn played(kind: Kind, seed: u64, wanted: Wanted) -> Result<(Plan, Outcome), String> {
@@ -50,7 +54,7 @@ fn run(options: &Options) -> Result<bool, String> {
     loop {
         let (plan, outcome) = played(options.kind, seed, options.wanted)?;
         if let Some(line) = tally.add(&plan, &outcome) {
-            println!("{line}");
+            say(line)?;
         }
         if let Some(folder) = &options.records {
             let entries = recorded(&plan, &PlantParts, &outcome.acts).map_err(|refusal| refusal.to_string())?;
@@ -65,7 +69,7 @@ fn run(options: &Options) -> Result<bool, String> {
             break;
         }
     }
-    println!("{}", tally.told(start.elapsed()));
+    say(tally.told(start.elapsed()))?;
     Ok(tally.is_well())
 }
 
@@ -76,14 +80,14 @@ fn seeds(options: &Options) -> Result<bool, String> {
     for seed in options.seed..options.seed.saturating_add(options.count) {
         let (plan, outcome) = played(options.kind, seed, options.wanted)?;
         if let Some(line) = tally.add(&plan, &outcome).filter(|_| tally.failed <= 10) {
-            println!("{line}");
+            say(line)?;
         }
         if told.elapsed() > Duration::from_secs(10) {
             told = Instant::now();
             eprintln!("{}: {} of {} seeds", options.kind, tally.runs, options.count);
         }
     }
-    println!("{}", tally.told(start.elapsed()));
+    say(tally.told(start.elapsed()))?;
     Ok(tally.is_well())
 }
 
@@ -91,14 +95,14 @@ fn short(options: &Options) -> Result<bool, String> {
     let (plan, outcome) = played(options.kind, options.seed, options.wanted)?;
     let time = Duration::from_secs(options.seconds);
     let Some(short) = shrink(&plan, &PlantParts, &outcome.acts, time) else {
-        println!("seed {} does not fail: {} steps", options.seed, outcome.steps);
+        say(format_args!("seed {} does not fail: {} steps", options.seed, outcome.steps))?;
         return Ok(options.kind != Kind::Beyond);
     };
-    println!("seed {}: {} steps, of which {} are enough", options.seed, outcome.steps, short.acts.len());
+    say(format_args!("seed {}: {} steps, of which {} are enough", options.seed, outcome.steps, short.acts.len()))?;
     for (number, act) in (1..).zip(&short.acts) {
-        println!("{number}. member {}: {act}", act.at);
+        say(format_args!("{number}. member {}: {act}", act.at))?;
     }
-    println!("{}", short.failure);
+    say(short.failure)?;
     if let Some(folder) = &options.records {
         write_records(&plan, &short.entries, Path::new(folder))?;
     }
@@ -112,7 +116,7 @@ fn write_records(plan: &Plan, entries: &[plant::calls::Entry], folder: &Path) ->
         let stream = records::stream(plan, member, entries).map_err(|refusal| refusal.to_string())?;
         let file = folder.join(format!("member-{member}.stream"));
         fs::write(&file, stream).map_err(told)?;
-        println!("{}", file.display());
+        say(file.display())?;
     }
     Ok(())
 }
@@ -122,7 +126,7 @@ fn write_calls(list: &List, folder: &Path) -> Result<(), String> {
     for (name, bytes) in [("calls.list", list.bytes()), ("calls.told", list.told())] {
         let file = folder.join(name);
         fs::write(&file, bytes).map_err(|error| format!("{}: {error}", file.display()))?;
-        println!("{}", file.display());
+        say(file.display())?;
     }
     Ok(())
 }

@@ -31,8 +31,8 @@ KIND is one of
     all           all of these
     beyond        faulty members weigh more than the fault bound: chains may part
 
-The status is 0 where nothing went wrong, 1 where a run failed, and 2 where the command line is not understood. Of
-kind beyond a fork is what is looked for: the status is 0 where one was found.";
+The status is 0 where nothing went wrong, 1 where a run failed, and 2 where the command line is not understood or
+something cannot be written. Of kind beyond a fork is what is looked for: the status is 0 where one was found.";
 
 /// A command with what it is given.
 #[derive(Clone, PartialEq, Eq, Debug)]

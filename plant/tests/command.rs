@@ -1,6 +1,6 @@
 //! The command line.
 
-use std::process::{Command, Output};
+use std::process::{Command, Output, Stdio};
 
 fn plant(words: &str) -> Output {
     Command::new(env!("CARGO_BIN_EXE_plant")).args(words.split_whitespace()).output().unwrap()
@@ -42,6 +42,17 @@ fn what_is_not_understood_is_told_in_a_line() {
         assert_eq!((status, out.as_str()), (Some(2), ""), "{words}");
         assert!(errors.contains(line) && errors.lines().count() == 1, "{words}: {errors}");
     }
+}
+
+#[test]
+fn a_reader_that_goes_is_told_in_a_line() {
+    let mut run = Command::new(env!("CARGO_BIN_EXE_plant"));
+    run.args(["run", "--kind", "lossy", "--members", "4", "--ceiling", "8"]);
+    let mut child = run.stdout(Stdio::piped()).stderr(Stdio::piped()).spawn().unwrap();
+    drop(child.stdout.take());
+    let (status, _, errors) = said(&child.wait_with_output().unwrap());
+    assert_eq!(status, Some(2));
+    assert!(errors.starts_with("plant: cannot write the result: ") && errors.lines().count() == 1, "{errors}");
 }
 
 #[test]

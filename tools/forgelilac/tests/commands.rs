@@ -528,7 +528,7 @@ fn the_effect_of_a_bond() {
     let lines: Vec<_> = lines.lines().take(3).collect();
     let to = folder.path("effect.svg");
     let text = said(&["effect", "--member", "5", "--amount", "2", "--sheet", "ceiling=64", "--svg", &to]);
-    assert_eq!(text, lines.join("\n") + "\ntotal 4, so never more than 334\n");
+    assert_eq!(text, lines.join("\n") + "\nround 1, total 4, so never more than 334\n");
     assert_eq!(fs::read_to_string(&to).unwrap(), fs::read_to_string(top().join("docs/effect.svg")).unwrap());
     let stream = folder.file("stream", "open,0,,64,,,,,,,,,,,,,,,,,\r\n");
     assert_eq!(said(&["effect", "--member", "5", "--amount", "2", &stream]), text);
@@ -541,7 +541,7 @@ fn the_effect_of_a_bond() {
             "before 0 200 200 200 400 0 0 0 0 0 0 0 0 0 0 0",
             "after 375 125 125 125 250 0 0 0 0 0 0 0 0 0 0 0",
             "largest 375",
-            "total 5, so never more than 376",
+            "round 8, total 5, so never more than 376",
         ],
     );
     let (status, line) = refused(&["effect", "--member", "0", "--amount", "3", "--round", "20", &store]);

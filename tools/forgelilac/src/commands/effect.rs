@@ -23,8 +23,8 @@ pub const COMMAND: Command = Command {
 Of the committee of round R, if not given that of the present round, at the end of STREAM, whose records the
 engine answers, or of stored words; with --sheet of the starting committee of a sheet, written as for
 forgelilac sheet. Three lines: the sixteen shares before the bond, in thousandths, those after it, and the
-largest difference; then the most that it may be by the total and the amount alone. Nothing is bonded
-(docs/RECIPES.md, \"Before you bond\").",
+largest difference; then the round, and the most that the difference may be by its total and the amount alone.
+Nothing is bonded (docs/RECIPES.md, \"Before you bond\").",
     choices: &[
         Choice { name: "member", value: Some("M"), about: "who bonds, 0 to 15" },
         Choice { name: "amount", value: Some("K"), about: "by how much, 1 to 1000" },
@@ -58,7 +58,7 @@ fn run(arguments: &Arguments) -> Result<Outcome, Failure> {
     let mut text =
         format!("before{}\nafter{}\nlargest {}\n", shares(&effect.before), shares(&effect.after), effect.largest);
     let most = 1 + 1_000 * amount / (total + amount);
-    let _ = writeln!(text, "total {}, so never more than {most}", grouped(total));
+    let _ = writeln!(text, "round {round}, total {}, so never more than {most}", grouped(total));
     Ok(text.into())
 }
 
