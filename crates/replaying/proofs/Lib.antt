@@ -1,6 +1,10 @@
 pub mod Guests
 pub mod RunsLaws
 pub mod ListLaws
+pub mod UnreadLaws
+pub mod DecodedLaws
 pub mod ByteLaws
 pub mod ReplayLaws
 pub mod OpenedLaws
+pub mod UnmadeLaws
+pub mod OneListLaws

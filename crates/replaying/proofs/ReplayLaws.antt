@@ -44,10 +44,7 @@ module _ (w rest : List ℕ) (h : Head) (l : List Entry) (before after : List Ke
       → Replays w h l after answers
   replays e z f b u n m o s y r a c g =
       record {
-        listed = rw (e, f) refl;
-        sheet = z;
-        callers = b;
-        whole = u;
+        listed = record { words = rw (e, f) refl; sheet = z; callers = b; whole = u };
         hosts = m ∙ n;
         accepted = o;
         left = r (opened h) s;

@@ -1,5 +1,5 @@
 -- A list of a run's calls as words: a head, and then each call of each member in the order in which they are made (docs/PLANT.md, "The calls of a run, made again").
-use Rattle.std.specs.Prelude.{◌≡◌, List, [], ◌∷◌, ◌++◌, ℕ, length, All}
+use Rattle.std.specs.Prelude.{◌≡◌, ◌<◌, List, [], ◌∷◌, ◌++◌, ℕ, length, All}
 use Rattle.batching.specs.declared.rows.CertificateRecord.{CertificateRecord}
 use Rattle.batching.specs.Rows.{record_words}
 use Rattle.replaying.specs.declared.calls.HostCall.{HostCall}
@@ -9,6 +9,8 @@ use Rattle.replaying.specs.declared.calls.GuestCall.TheVariants as guest
 use Rattle.replaying.specs.declared.calls.Call.{Call}
 use Rattle.replaying.specs.declared.calls.Call.TheVariants.{Host, Guest}
 use Rattle.replaying.specs.declared.calls.Entry.{Entry}
+use Rattle.replaying.specs.declared.failure.Failure.{Failure}
+use Rattle.replaying.specs.declared.failure.Failure.TheVariants.{Damaged, Memory}
 use Rattle.replaying.specs.declared.heads.Head.{Head}
 use Rattle.replaying.specs.declared.heads.TheConstants.{MARK}
 
@@ -60,7 +62,7 @@ unfoldable pub entries_words : List Entry → List ℕ
 entries_words [] = []
 entries_words (e ∷ l) = entry_words e ++ entries_words l
 
--- ---- how long each array is: a value of these types has no other length, and so words are of one list
+-- ---- how long each array is, and that a byte is one: no value of these types is other, and so words are of one list
 
 abbrev pub RecordWhole : CertificateRecord → Type 0
 RecordWhole e = length e.body ≡ 14
@@ -79,6 +81,7 @@ GuestWhole (guest.Enqueue x) = length x ≡ 3
 GuestWhole (guest.Endorse proposal) = length proposal ≡ 16
 GuestWhole (guest.Accept certificate) = length certificate ≡ 17
 GuestWhole (guest.Batch row) = All RecordWhole row.items
+GuestWhole (guest.PortWrite o b) = b < 256
 GuestWhole c = Unit {0}
 
 abbrev pub CallWhole : Call → Type 0
@@ -94,3 +97,47 @@ head_words h = MARK ∷ h.members ∷ h.rights ∷ h.sheet
 -- the words of a whole list
 abbrev pub list_words : Head → List Entry → List ℕ
 list_words h l = head_words h ++ entries_words l
+
+-- the words w are those of the head h and of the list of calls l, each of one of the head's members and with arrays of their lengths
+pub record Listed (w : List ℕ) (h : Head) (l : List Entry) : Type 0 where
+  pub words : w ≡ list_words h l
+  pub sheet : length h.sheet ≡ 40
+  pub callers : All (λ e. e.who < h.members) l
+  pub whole : All (λ e. CallWhole e.call) l
+
+-- ---- words that begin with none of these
+
+abbrev pub NoRow : List ℕ → Type 0
+NoRow w = (l : List CertificateRecord) (r : List ℕ) → All RecordWhole l
+    → w ≡ row_words l ++ r → ⊥
+
+-- behind the number of a call, and behind the caller of a guest's
+abbrev pub NoHost : ℕ → List ℕ → Type 0
+NoHost n w = (c : HostCall) (r : List ℕ) → HostWhole c
+    → n ∷ w ≡ host_words c ++ r → ⊥
+
+abbrev pub NoGuest : ℕ → ℕ → List ℕ → Type 0
+NoGuest n g w = (c : GuestCall) (r : List ℕ) → GuestWhole c
+    → n ∷ g ∷ w ≡ guest_words g c ++ r → ⊥
+
+abbrev pub NoEntry : ℕ → List ℕ → Type 0
+NoEntry members w = (e : Entry) (r : List ℕ) → e.who < members → CallWhole e.call
+    → w ≡ entry_words e ++ r → ⊥
+
+abbrev pub NoHead : List ℕ → Type 0
+NoHead w = (h : Head) (r : List ℕ) → length h.sheet ≡ 40
+    → w ≡ head_words h ++ r → ⊥
+
+-- and words that are no calls of so many members to their end, or no list
+abbrev pub NoEntries : ℕ → List ℕ → Type 0
+NoEntries members w = (l : List Entry) → All (λ e. e.who < members) l
+    → All (λ e. CallWhole e.call) l → w ≡ entries_words l → ⊥
+
+abbrev pub NoList : List ℕ → Type 0
+NoList w = (h : Head) (l : List Entry) → Listed w h l → ⊥
+
+-- why words are not read: nothing of the kind stands there, or memory
+abbrev pub Unread : Type 0 → Failure → Type 0
+Unread none Damaged = none
+Unread none Memory = Unit {0}
+Unread none f = ⊥

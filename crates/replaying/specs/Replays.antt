@@ -1,5 +1,5 @@
 -- What making a list again comes to, and the bytes that tell it.
-use Rattle.std.specs.Prelude.{◌≡◌, ◌<◌, List, [], ◌++◌, ℕ, Option, length, All}
+use Rattle.std.specs.Prelude.{◌≡◌, ◌<◌, ◌⊎◌, List, [], ◌++◌, ℕ, Option, length}
 use Rattle.std.specs.Io.KnownBytes.{Keeps}
 use Rattle.std.specs.Int.{w32, w64, to_le_bytes}
 use Rattle.std.specs.List.{flat_map}
@@ -8,18 +8,15 @@ use Rattle.library.specs.Hosts.{Hosts, members, calls_in}
 use Rattle.replaying.specs.declared.calls.Entry.{Entry}
 use Rattle.replaying.specs.declared.calls.Keeper.{Keeper}
 use Rattle.replaying.specs.declared.failure.Failure.{Failure}
-use Rattle.replaying.specs.declared.failure.Failure.TheVariants.{Stream}
+use Rattle.replaying.specs.declared.failure.Failure.TheVariants.{Damaged, Refused, Memory, Stream}
 use Rattle.replaying.specs.declared.heads.Head.{Head}
-use Rattle.replaying.specs.Lists.{CallWhole, list_words}
+use Rattle.replaying.specs.Lists.{head_words, Listed, NoList}
 use Rattle.replaying.specs.Runs.{Stand, after_run, answers_of, newest, NeverFork, SameCommittees}
-use Rattle.replaying.specs.Opened.{opened, Opens, OpenedAs}
+use Rattle.replaying.specs.Opened.{opened, Opens, Unopened, OpenedAs}
 
--- the words w are those of the head h and of the list of calls l, each of one of the head's members and with arrays of their lengths, so of no other; members open, their words and the answers are what the list of the library's calls leaves and answers; and chains never fork over it, where it is a run
+-- the words w are those of the head h and of the list of calls l; members open, their words and the answers are what the list of the library's calls leaves and answers; and chains never fork over it, where it is a run
 pub record Replays (w : List ℕ) (h : Head) (l : List Entry) (keepers : List Keeper) (answers : List ℕ) : Type 0 where
-  pub listed : w ≡ list_words h l
-  pub sheet : length h.sheet ≡ 40
-  pub callers : All (λ e. e.who < h.members) l
-  pub whole : All (λ e. CallWhole e.call) l
+  pub listed : Listed w h l
   pub hosts : length keepers ≡ h.members
   pub accepted : (k : ℕ) → k < h.members → Opens h k
   pub left : Stand keepers (after_run (opened h) l)
@@ -29,11 +26,32 @@ pub record Replays (w : List ℕ) (h : Head) (l : List Entry) (keepers : List Ke
   pub committees : (X : Hosts) → OpenedAs X h → Run (members X) (calls_in X (newest l []))
       → SameCommittees X keepers
 
+-- the open of one of the members of the head that the words w begin with comes to nothing, for this reason
+pub record Unopens (w : List ℕ) (f : Failure) : Type 0 where
+  pub head : Head
+  pub rest : List ℕ
+  pub sheet : length head.sheet ≡ 40
+  pub words : w ≡ head_words head ++ rest
+  pub member : ℕ
+  pub below : member < head.members
+  pub failed : Unopened head member f
+
+-- why the words w are not made again: they are of no list, or the sheet cannot be read; an open is refused, with this number; memory
+abbrev pub Unmade : List ℕ → Failure → Type 0
+Unmade w Damaged = NoList w ⊎ Unopens w Damaged
+Unmade w (Refused n) = Unopens w (Refused n)
+Unmade w Memory = Unit {0}
+Unmade w (Stream e) = ⊥
+
 -- ---- as bytes, the lowest of each number first
 
 -- words have four each
 abbrev pub bytes_of : List ℕ → List ℕ
 bytes_of w = flat_map (to_le_bytes w32) w
+
+-- bytes of no words
+abbrev pub NoWords : List ℕ → Type 0
+NoWords b = (w : List ℕ) → b ≡ bytes_of w → ⊥
 
 -- answers eight
 abbrev pub answer_bytes : List ℕ → List ℕ
@@ -57,6 +75,18 @@ pub record Told (b t : List ℕ) : Type 0 where
   pub bytes : b ≡ bytes_of words
   pub made : Replays words head entries keepers answers
   pub tells : t ≡ told_bytes keepers answers
+
+-- bytes of words that are not made again, for this reason
+pub record UnmadeBytes (b : List ℕ) (f : Failure) : Type 0 where
+  pub words : List ℕ
+  pub bytes : b ≡ bytes_of words
+  pub unmade : Unmade words f
+
+-- why the bytes b are not: they are of no words, or of such; memory; a stream has failed
+abbrev pub Unserved : List ℕ → Failure → Type 0
+Unserved b Damaged = NoWords b ⊎ UnmadeBytes b Damaged
+Unserved b (Refused n) = UnmadeBytes b (Refused n)
+Unserved b f = Unit {0}
 
 -- why a list is not made again: nothing is told then, unless a stream has failed; a has what was told before, b what is told afterwards
 abbrev pub Silent : Failure → Option (List ℕ) → Option (List ℕ) → Type 0

@@ -10,12 +10,13 @@ pub mod making;
 pub mod opening;
 pub mod reading;
 pub mod telling;
+pub mod theorems;
 
 ghost use Rattle.std.specs.Prelude.{◌≡◌, List, ℕ, IfOk, IfErr, IfSome, IsOk};
 ghost use Rattle.std.specs.Io.KnownBytes.{Appends};
 ghost use Rattle.replaying.specs.declared.calls.Entry.{Entry};
 ghost use Rattle.replaying.specs.declared.heads.Head.{Head};
-ghost use Rattle.replaying.specs.Replays.{Replays, Told, Silent};
+ghost use Rattle.replaying.specs.Replays.{Replays, Unmade, Told, Silent, Unserved};
 
 use crate::calls::Keeper;
 use crate::failure::Failure;
@@ -25,10 +26,12 @@ use std::io::{Read, Write};
 /// Makes a list again, by its words: what its members' hosts keep afterwards, and the answer to each call.
 ///
 /// # Errors
-/// Words that no list has, an open that is refused, memory.
+/// Words that no list has or whose sheet cannot be read, an open that is refused, memory.
+#[tactic(auto, using(crate::proofs::UnmadeLaws::head_unmade, crate::proofs::UnmadeLaws::opens_unmade, crate::proofs::UnmadeLaws::entries_unmade))]
 pub fn replay(alloc: Global, words: &[u32]) -> Result<(Vec<Keeper>, Vec<u64>), Failure>
-    ensures { IfOk result (λ p. (h : Head) × (l : List Entry)
+    ensures made { IfOk result (λ p. (h : Head) × (l : List Entry)
         × Replays words.now h l p.0.items p.1.items) }
+    ensures failed { IfErr result (Unmade words.now) }
 {
     let (head, rest) = reading::head(words)?;
     let mut keepers = opening::opens(alloc, &head)?;
@@ -47,6 +50,8 @@ pub fn serve<R: Read, W: Write>(alloc: Global, input: &mut R, output: &mut W) ->
         × Told bytes told × Appends (W.contents output.old) (W.contents output.new) told) }
     ensures refused { IfErr result (λ f.
         Silent f (W.contents output.old) (W.contents output.new)) }
+    ensures failed { IfErr result (λ f.
+        IfSome (R.remaining input.old) (λ bytes. Unserved bytes f)) }
 {
     let mut bytes = Vec::new(alloc);
     input.read_to_end(&mut bytes)?;

@@ -2,11 +2,12 @@
 //!
 //! What is read has exactly these words (specs/Lists), so words that no list has are refused.
 
-ghost use Rattle.std.specs.Prelude.{◌≡◌, ◌∷◌, ◌++◌, ◌<◌, length, All, IfOk};
+ghost use Rattle.std.specs.Prelude.{◌≡◌, [], ◌∷◌, ◌++◌, ◌<◌, ◌*◌, length, get_or, All, IfOk, IfErr};
 ghost use Rattle.batching.specs.Rows.{record_words};
 ghost use Rattle.library.specs.Calls.{Typed};
 ghost use Rattle.replaying.specs.Told.{told, told_host, told_guest};
-ghost use Rattle.replaying.specs.Lists.{row_words, rows_words, host_words, guest_words, entry_words, entries_words, head_words, RecordWhole, HostWhole, GuestWhole, CallWhole};
+ghost use Rattle.replaying.specs.Lists.{row_words, rows_words, host_words, guest_words, entry_words, entries_words, head_words, RecordWhole, HostWhole, GuestWhole, CallWhole, NoRow, NoHost, NoGuest, NoEntry, NoEntries, NoHead, Unread};
+ghost use Rattle.replaying.specs.declared.failure.Failure.TheVariants.{Damaged};
 
 use crate::calls::{Call, Entry, GuestCall, HostCall};
 use crate::failure::{Failure, push};
@@ -16,7 +17,8 @@ use std::alloc::Global;
 
 // A word, and the words behind it.
 fn number(words: &[u32]) -> Result<(u32, &[u32]), Failure>
-    ensures { IfOk result (λ p. words.now ≡ p.0 ∷ p.1.now) }
+    ensures words { IfOk result (λ p. words.now ≡ p.0 ∷ p.1.now) }
+    ensures none { IfErr result (λ f. (f ≡ Damaged) × (words.now ≡ [])) }
 {
     match words.split_first() {
         Some((first, rest)) => Ok((*first, rest)),
@@ -26,7 +28,8 @@ fn number(words: &[u32]) -> Result<(u32, &[u32]), Failure>
 
 // So many words, and the words behind them.
 fn stretch<const N: usize>(words: &[u32]) -> Result<([u32; N], &[u32]), Failure>
-    ensures { IfOk result (λ p. words.now ≡ p.0 ++ p.1.now) }
+    ensures words { IfOk result (λ p. words.now ≡ p.0 ++ p.1.now) }
+    ensures none { IfErr result (λ f. (f ≡ Damaged) × (length words.now < N)) }
 {
     match words.split_first_chunk::<N>() {
         Some((first, rest)) => Ok((*first, rest)),
@@ -39,6 +42,7 @@ fn stretch<const N: usize>(words: &[u32]) -> Result<([u32; N], &[u32]), Failure>
 fn record(words: &[u32]) -> Result<(CertificateRecord, &[u32]), Failure>
     ensures words { IfOk result (λ p. words.now ≡ record_words p.0 ++ p.1.now) }
     ensures whole { IfOk result (λ p. RecordWhole p.0) }
+    ensures none { IfErr result (λ f. (f ≡ Damaged) × (length words.now < 17)) }
 {
     let (author, rest) = number(words)?;
     let (round, rest) = number(rest)?;
@@ -54,7 +58,7 @@ fn record(words: &[u32]) -> Result<(CertificateRecord, &[u32]), Failure>
 }
 
 // The certificates of a row, so many.
-#[tactic(auto, using(crate::proofs::ListLaws::rows_none, crate::proofs::ListLaws::rows_more))]
+#[tactic(auto, using(crate::proofs::ListLaws::rows_none, crate::proofs::ListLaws::rows_more, crate::proofs::UnreadLaws::rows_unread))]
 fn records(
     alloc: Global,
     count: u32,
@@ -63,6 +67,7 @@ fn records(
     ensures words { IfOk result (λ p.
         (length p.0.items ≡ count) × (words.now ≡ rows_words p.0.items ++ p.1.now)) }
     ensures whole { IfOk result (λ p. All RecordWhole p.0.items) }
+    ensures none { IfErr result (Unread (length words.now < 17 * count)) }
 {
     let mut row = Vec::new(alloc);
     let mut rest = words;
@@ -75,19 +80,23 @@ fn records(
 }
 
 // A row: how many certificates it has, and these.
+#[tactic(auto, using(crate::proofs::UnreadLaws::no_row_empty, crate::proofs::UnreadLaws::row_unread))]
 fn row(alloc: Global, words: &[u32]) -> Result<(Vec<CertificateRecord>, &[u32]), Failure>
     ensures words { IfOk result (λ p. words.now ≡ row_words p.0.items ++ p.1.now) }
     ensures whole { IfOk result (λ p. All RecordWhole p.0.items) }
+    ensures none { IfErr result (Unread (NoRow words.now)) }
 {
     let (count, rest) = number(words)?;
     records(alloc, count, rest)
 }
 
 // A call of the host's own, by its number and the words behind that.
+#[tactic(auto, using(crate::proofs::UnreadLaws::no_host, crate::proofs::UnreadLaws::no_host_above, crate::proofs::UnreadLaws::host_row))]
 fn host_call(alloc: Global, code: u32, words: &[u32]) -> Result<(HostCall, &[u32]), Failure>
     ensures words { IfOk result (λ p. code ∷ words.now ≡ host_words p.0 ++ p.1.now) }
     ensures typed { IfOk result (λ p. Typed (told_host p.0)) }
     ensures whole { IfOk result (λ p. HostWhole p.0) }
+    ensures none { IfErr result (Unread (NoHost code words.now)) }
 {
     match code {
         0 => {
@@ -131,7 +140,8 @@ fn host_call(alloc: Global, code: u32, words: &[u32]) -> Result<(HostCall, &[u32
 
 // What is written to a port: a byte.
 fn byte(words: &[u32]) -> Result<(u8, &[u32]), Failure>
-    ensures { IfOk result (λ p. words.now ≡ p.0 ∷ p.1.now) }
+    ensures words { IfOk result (λ p. words.now ≡ p.0 ∷ p.1.now) }
+    ensures none { IfErr result (λ f. (f ≡ Damaged) × (255 < get_or words.now 0 256)) }
 {
     let (value, rest) = number(words)?;
     if 255 < value {
@@ -141,6 +151,7 @@ fn byte(words: &[u32]) -> Result<(u8, &[u32]), Failure>
 }
 
 // A guest's call, by its number and the words behind the caller.
+#[tactic(auto, using(crate::proofs::UnreadLaws::no_guest, crate::proofs::UnreadLaws::no_guest_below, crate::proofs::UnreadLaws::no_guest_above, crate::proofs::UnreadLaws::guest_row, crate::proofs::UnreadLaws::no_write))]
 fn guest_call(
     alloc: Global,
     code: u32,
@@ -151,6 +162,7 @@ fn guest_call(
         (λ p. code ∷ caller ∷ words.now ≡ guest_words caller p.0 ++ p.1.now) }
     ensures typed { IfOk result (λ p. Typed (told_guest caller p.0)) }
     ensures whole { IfOk result (λ p. GuestWhole p.0) }
+    ensures none { IfErr result (Unread (NoGuest code caller words.now)) }
 {
     match code {
         16 => {
@@ -197,11 +209,13 @@ fn guest_call(
 }
 
 // Whose call it is, one of so many members, and the call.
+#[tactic(auto, using(crate::proofs::UnreadLaws::no_entry_empty, crate::proofs::UnreadLaws::no_entry_member, crate::proofs::UnreadLaws::no_entry_number, crate::proofs::UnreadLaws::no_entry_caller, crate::proofs::UnreadLaws::host_entry_unread, crate::proofs::UnreadLaws::guest_entry_unread))]
 fn entry(alloc: Global, members: u32, words: &[u32]) -> Result<(Entry, &[u32]), Failure>
     ensures words { IfOk result (λ p. words.now ≡ entry_words p.0 ++ p.1.now) }
     ensures member { IfOk result (λ p. p.0.who < members) }
     ensures typed { IfOk result (λ p. Typed (told p.0.call)) }
     ensures whole { IfOk result (λ p. CallWhole p.0.call) }
+    ensures none { IfErr result (Unread (NoEntry members words.now)) }
 {
     let (who, rest) = number(words)?;
     if members <= who {
@@ -226,12 +240,13 @@ fn entry(alloc: Global, members: u32, words: &[u32]) -> Result<(Entry, &[u32]), 
 }
 
 /// The calls of so many members, to the end of the words.
-#[tactic(auto, using(crate::proofs::ListLaws::entries_none, crate::proofs::ListLaws::entries_more, crate::proofs::ListLaws::entry_shorter))]
+#[tactic(auto, using(crate::proofs::ListLaws::entries_none, crate::proofs::ListLaws::entries_more, crate::proofs::ListLaws::entry_shorter, crate::proofs::DecodedLaws::entries_unread))]
 pub fn entries(alloc: Global, members: u32, words: &[u32]) -> Result<Vec<Entry>, Failure>
     ensures words { IfOk result (λ v. words.now ≡ entries_words v.items) }
     ensures members { IfOk result (λ v. All (λ e. e.who < members) v.items) }
     ensures typed { IfOk result (λ v. All (λ e. Typed (told e.call)) v.items) }
     ensures whole { IfOk result (λ v. All (λ e. CallWhole e.call) v.items) }
+    ensures none { IfErr result (Unread (NoEntries members words.now)) }
 {
     let mut all = Vec::new(alloc);
     let mut rest = words;
@@ -244,9 +259,11 @@ pub fn entries(alloc: Global, members: u32, words: &[u32]) -> Result<Vec<Entry>,
 }
 
 /// The head of a list, and the words behind it.
+#[tactic(auto, using(crate::proofs::UnreadLaws::no_head, crate::proofs::UnreadLaws::no_head_mark))]
 pub fn head(words: &[u32]) -> Result<(Head, &[u32]), Failure>
     ensures words { IfOk result (λ p. words.now ≡ head_words p.0 ++ p.1.now) }
     ensures sheet { IfOk result (λ p. length p.0.sheet ≡ 40) }
+    ensures none { IfErr result (Unread (NoHead words.now)) }
 {
     let (mark, rest) = number(words)?;
     if mark != MARK {

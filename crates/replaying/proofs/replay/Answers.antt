@@ -2,8 +2,8 @@ use Rattle.std.proofs.Common.{sym, drop, length, arith}
 use Rattle.replaying.proofs.ReplayLaws.{same_room, replays}
 use Rattle.replaying.proofs.replay.Goals as goal
 
-pub returns : goal.returns
-returns c =
+pub returns-clause-made : goal.returns-clause-made
+returns-clause-made c =
     let before = c.deref_mut.result.now in
     let l = c.deref.result.now in
     let h = c.in_ok-keepers.ensures in

@@ -6,7 +6,7 @@ use Rattle.replaying.proofs.serve.Goals as goal
 
 pub returns-clause-made : goal.returns-clause-made
 returns-clause-made g c _ =
-    let made = rw c.deref-2.ensures.value at c.in_ok-keepers.ensures in
+    let made = rw c.deref-2.ensures.value at c.in_ok-keepers.ensures.made in
     let told : Told c.read_to_end.new.buf.items c.in_ok-told.told.items =
     record {
       words = c.in_ok-words.words.items;
@@ -14,9 +14,9 @@ returns-clause-made g c _ =
       entries = made.1;
       keepers = c.in_ok-keepers.keepers.items;
       answers = c.in_ok-keepers.answers.items;
-      bytes = sym c.deref.ensures.value ∙ c.in_ok-words.ensures;
+      bytes = sym c.deref.ensures.value ∙ c.in_ok-words.ensures.words;
       made = made.2;
-      tells = rw (c.deref-3.ensures.value, c.deref-4.ensures.value) at c.in_ok-told.ensures;
+      tells = rw (c.deref-3.ensures.value, c.deref-4.ensures.value) at c.in_ok-told.ensures.bytes;
     }
     in
     let whole = rw c.new-bytes.ensures.items at c.in_ok-read_to_end.ensures.bytes in
