@@ -8,7 +8,7 @@
 #   make shared              libforgelilac.so of the archive, by the linker alone
 #   make dist                archive, header, forgelilac.pc and what to know, with checksums, in DIST: the same bytes
 #                            wherever it is made of the same archive, by the same tar and gzip
-#   make check               all tests, the gate first; takes an hour and more
+#   make check               all tests, the gate first; takes two hours where nothing has been proved before
 #   make check-fast          tests in small numbers, without the gate, in some five minutes
 #   make clean               removes what make made, and nothing of rt's
 #
