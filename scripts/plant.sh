@@ -91,16 +91,26 @@ for kind in lossy partitions crashes equivocation weights guests all beyond; do
     done
 done
 echo "calls of $runs runs: made again by proved code, the same answers and the same words"
-# A word less, a byte less, another mark: nothing of these is told.
-head -c -4 "$out/calls/calls.list" > "$out/short"
-head -c -1 "$out/calls/calls.list" > "$out/torn"
-{ printf X; tail -c +2 "$out/calls/calls.list"; } > "$out/other"
-for damaged in short torn other; do
-    if "$replayer" < "$out/$damaged" > "$out/again" 2> "$out/said"; then
-        echo "the replayer takes a damaged list ($damaged)" >&2
+# A word less, a byte less, another mark; a seventeenth member, and a sheet that cannot be read: nothing of these is told.
+list=$out/calls/calls.list
+head -c -4 "$list" > "$out/short"
+head -c -1 "$list" > "$out/torn"
+{ printf X; tail -c +2 "$list"; } > "$out/other"
+{ head -c 4 "$list"; printf '\021'; tail -c +6 "$list"; } > "$out/many"
+{ head -c 12 "$list"; printf '\002'; tail -c +14 "$list"; } > "$out/unread"
+no_list="these are the words of no list of calls"
+while read -r refused why; do
+    if "$replayer" < "$out/$refused" > "$out/again" 2> "$out/said"; then
+        echo "the replayer makes what is no list, or does not open ($refused)" >&2
         exit 1
     fi
-    [ ! -s "$out/again" ] || { echo "the replayer tells something of a damaged list ($damaged)" >&2; exit 1; }
-    grep -q '^replayer: these are the words of no list' "$out/said" || { echo "the replayer does not say what is wrong ($damaged)" >&2; exit 1; }
-done
-echo "three damaged lists: refused in words, and nothing told"
+    [ ! -s "$out/again" ] || { echo "the replayer tells something of a list that is not made ($refused)" >&2; exit 1; }
+    grep -qx "replayer: $why" "$out/said" || { echo "the replayer does not say what is wrong ($refused)" >&2; exit 1; }
+done <<end
+short $no_list
+torn $no_list
+other $no_list
+many the list's open is refused with 4
+unread the list's open is refused with 1
+end
+echo "three damaged lists, two that do not open: refused in words, and nothing told"

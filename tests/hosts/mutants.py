@@ -3,9 +3,11 @@ spoilt ones the comparison with the reference notices.
 
     python3 tests/hosts/mutants.py [CALLS [SEED [TEXT]]]
 
-With TEXT only those whose old text holds it.
+With TEXT only those whose old text holds it. JOBS says how many are tried at
+a time. Status 1 where one is not noticed, and where one cannot be tried.
 """
-import os, shutil, subprocess, sys
+import os, shutil, subprocess, sys, tempfile, threading
+from concurrent.futures import ThreadPoolExecutor
 
 
 def store_endorsers(how):
@@ -1018,36 +1020,57 @@ MUTANTS = [
 ]
 
 
+HERE = os.path.dirname(os.path.abspath(__file__))
+TOP = os.path.join(HERE, "..", "..")
+RUSTC = ["rustc", "--edition", "2021", "-A", "warnings", "-C", "opt-level=1"]
+
+
+def tried(work, text, old, new, arguments):
+    """Why a spoilt one is not noticed, None where it is. Each thread has its own copy."""
+    if text.count(old) != 1:
+        return "its text stands %d times" % text.count(old)
+    copy = os.path.join(work, str(threading.get_ident()))
+    if not os.path.isdir(copy):
+        for folder in ("bench", "tests"):
+            shutil.copytree(os.path.join(TOP, folder), os.path.join(copy, folder))
+    with open(os.path.join(copy, "bench", "plain.rs"), "w") as f:
+        f.write(text.replace(old, new))
+    program = os.path.join(copy, "differential")
+    build = RUSTC + ["--cfg", "plain", "--extern", "reference=" + os.path.join(work, "libreference.rlib")]
+    build += [os.path.join(copy, "tests", "hosts", "differential.rs"), "-o", program]
+    built = subprocess.run(build, capture_output=True, text=True)
+    if built.returncode != 0:
+        return "it is not built: " + built.stderr.split("\n")[0]
+    ended = subprocess.run([program, *arguments], capture_output=True).returncode
+    if ended < 0:
+        return "a signal ended it, %d" % -ended
+    return None if ended > 0 else "not noticed"
+
+
 def main():
-    calls = sys.argv[1] if len(sys.argv) > 1 else "300000"
-    seed = sys.argv[2] if len(sys.argv) > 2 else "1"
+    arguments = [sys.argv[2] if len(sys.argv) > 2 else "1", sys.argv[1] if len(sys.argv) > 1 else "300000"]
     wanted = [m for m in MUTANTS if len(sys.argv) < 4 or sys.argv[3] in m[0]]
-    here = os.path.dirname(os.path.abspath(__file__))
-    top = os.path.join(here, "..", "..")
-    copy = os.path.join(top, "target", "mutants")
-    shutil.rmtree(copy, ignore_errors=True)
-    os.makedirs(copy)
-    for folder in ("bench", "tests"):
-        shutil.copytree(os.path.join(top, folder), os.path.join(copy, folder))
-    rustc = ["rustc", "--edition", "2021", "-A", "warnings", "-C", "opt-level=1"]
-    reference = os.path.join(copy, "libreference.rlib")
-    library = os.path.join(top, "reference", "src", "lib.rs")
-    subprocess.run(rustc + ["--crate-name", "reference", "--crate-type", "rlib", library, "-o", reference], check=True)
-    plain = os.path.join(copy, "bench", "plain.rs")
-    text = open(plain).read()
-    missed = []
-    for old, new in wanted:
-        assert text.count(old) == 1, "stands %d times: %s" % (text.count(old), old)
-        with open(plain, "w") as f:
-            f.write(text.replace(old, new))
-        build = rustc + ["--cfg", "plain", "--extern", "reference=" + reference]
-        build += [os.path.join(copy, "tests", "hosts", "differential.rs"), "-o", os.path.join(copy, "differential")]
-        subprocess.run(build, check=True)
-        run = subprocess.run([os.path.join(copy, "differential"), seed, calls], capture_output=True)
-        if run.returncode == 0:
-            missed.append((old, new))
-            print("not noticed: %r -> %r" % (old, new), flush=True)
-    print("%d mutants, %d noticed" % (len(wanted), len(wanted) - len(missed)))
+    if not wanted:
+        sys.exit("mutants.py: no old text holds %r" % sys.argv[3])
+    text = open(os.path.join(TOP, "bench", "plain.rs")).read()
+    os.makedirs(os.path.join(TOP, "target"), exist_ok=True)
+    wrong = 0
+    with tempfile.TemporaryDirectory(prefix="mutants-", dir=os.path.join(TOP, "target")) as work:
+        library = os.path.join(TOP, "reference", "src", "lib.rs")
+        subprocess.run(RUSTC + ["--crate-name", "reference", "--crate-type", "rlib", library,
+                                "-o", os.path.join(work, "libreference.rlib")], check=True)
+        unspoilt = tried(work, text, text, text, arguments)
+        if unspoilt != "not noticed":
+            sys.exit("mutants.py: plain.rs as it is: %s" % (unspoilt or "it differs from the reference"))
+        with ThreadPoolExecutor(int(os.environ.get("JOBS") or os.cpu_count())) as pool:
+            results = pool.map(lambda m: tried(work, text, *m, arguments), wanted)
+            for (old, new), why in zip(wanted, results):
+                if why:
+                    wrong += 1
+                    print("%s: %r -> %r" % (why, old, new), flush=True)
+    print("%d mutants, %d noticed" % (len(wanted), len(wanted) - wrong))
+    return 1 if wrong else 0
 
 
-main()
+if __name__ == "__main__":
+    sys.exit(main())

@@ -37,7 +37,7 @@ import tree
 
 HOST = "unsafe(no_mangle)"
 RUNNER = ["serving::serve_streams", "stream::run::run"]
-RUNS = ["runs::make", "runs::run", "host::runs::make", "host::runs::run"]  # theorems on code: their contracts are read with those of the theorems
+RUNS = ["runs::make", "runs::run", "replaying::replay", "replaying::serve", "host::runs::make", "host::runs::run"]  # theorems on code: their contracts are read with those of the theorems
 PAGE = "docs/TRUST.md"
 README = "README.md"
 HEADER = "include/forgelilac.h"
@@ -98,7 +98,7 @@ After the hour: what this page says of the runner, the rest of the definitions o
 
 ## What is proved
 
-A theorem is a function that takes nothing and does nothing: its clauses are all that it is. Theorems stand in src/theorems.rt of the crates that they speak of, in src/lib.rt of `kept` and `library`, and in src/ of `wordclaims`. Names in brackets are definitions of the list below.
+A theorem is a function that takes nothing and does nothing: its clauses are all that it is. Theorems stand in src/theorems.rt of the crates that they speak of, in src/lib.rt of `kept` and `library`, in src/heads.rt of `replaying`, and in src/ of `wordclaims`. Names in brackets are definitions of the list below.
 
 **The library.** Each function that a host links, on any words and lengths: its answer and every word that it leaves are those of its contract (`Done`, hosting/specs/Calls). The length of a table is a number alone. Owner's functions have one premise, that their words are as calls left them (`Owned`, owned/specs/Owned), and promise the same and that premise again. `forgelilac_owned_resume` has no premise: it promises when it answers 0 (`Resumable`), the premise then, and else that the kept committees are as they were (`Filled`).
 
@@ -108,7 +108,7 @@ A theorem is a function that takes nothing and does nothing: its clauses are all
 
 **The runner in one function.** `serve_streams` of serving is all of this from a member that is not open on, over any reader and any writer of std, in their own bytes, and with what the program ends with: where all is well the input came to its end. That a run ends well wherever the input did, and that a read or a write that failed is told as it failed, is promised of `run` and `told` over any peer (`Ran`, stream/specs/Talk; `Tells`, stream/specs/Ended).
 
-**The theorems**, each in its own words at its function. Over every list of calls, of calls and batches, of requests of hosts and guests, and of the library's calls over words, chains never fork (`chains_never_fork`, `chains_never_fork_with_batches`, `chains_never_fork_with_guests`, `chains_never_fork_over_words`), and so on for the others; "Roots" has all of them. `run` of crate `runs` makes a list of calls on several members' engines, and its contract says that their chains never fork; `run` of `host::runs` does and says so of the library's calls on several members' words.
+**The theorems**, each in its own words at its function. Over every list of calls, of calls and batches, of requests of hosts and guests, and of the library's calls over words, chains never fork (`chains_never_fork`, `chains_never_fork_with_batches`, `chains_never_fork_with_guests`, `chains_never_fork_over_words`), and so on for the others; "Roots" has all of them. `run` of crate `runs` makes a list of calls on several members' engines, and its contract says that their chains never fork; `run` of `host::runs` does and says so of the library's calls on several members' words; `serve` of `replaying` reads such a list from bytes, and tells what came of it (docs/PLANT.md).
 
 ## What the proofs assume
 
@@ -140,6 +140,10 @@ What the two have left and what they hold is not known to a contract, so the cla
 - a `flush` may tell of one that was not made, or that one was made which failed, for std promises of a flush only that no byte is lost by it.
 
 These five are to be read. `reference/ends.py` has the runner end by a full disk, a closed input and output, a directory, and a reader that goes.
+
+## On trust in the replayer
+
+`main` of the replayer hands std's `Stdin` and `Stdout` to `serve` of replaying; where that fails it writes one line to standard error, and ends with status 1. Of these two the same is believed as in the runner, and `serve` too is one function for every reader and writer. **What cannot be refused**: a body that says that memory is wanting, or that a read or a write failed, where none was or did; that tells another failure than the one that came; that does not flush; that wrote anything where it says that a read or a write failed over a list that is made again, since std says of a `write_all` that failed nothing. `main` and `serve` are to be read, fifteen lines; for memory, each place that gives `Memory`.
 
 ## How to read the list
 

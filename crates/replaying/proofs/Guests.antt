@@ -2,7 +2,7 @@
 use Rattle.std.proofs.Common.{◌≡◌, refl, ℕ, ◌*◌, ◌<◌, List, zero-add}
 use Rattle.terms.specs.declared.rights.Right.{Right}
 use Rattle.terms.specs.Rights.{caller_refusal}
-use Rattle.hosting.specs.Calls.{Result, refused, packed}
+use Rattle.hosting.specs.Calls.{Result, packed}
 use Rattle.hosting.specs.Guested.{rights_in, as_guest}
 use Rattle.hosting.proofs.Answered.{guest_refused}
 use Rattle.library.specs.Lists.{Words, after_call}

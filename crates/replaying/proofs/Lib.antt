@@ -7,4 +7,6 @@ pub mod ByteLaws
 pub mod ReplayLaws
 pub mod OpenedLaws
 pub mod UnmadeLaws
+pub mod ServeLaws
 pub mod OneListLaws
+pub mod OneOutcomeLaws

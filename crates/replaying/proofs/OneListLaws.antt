@@ -1,6 +1,5 @@
 -- Words are of one list alone.
-use Rattle.std.proofs.Common.{◌≡◌, ℕ, suc, ◌+◌, ◌<◌, List, [], ◌∷◌, ◌++◌, get_or, take, drop, length, refl, sym, ap, ◌∙◌, append-nil, arith}
-use Rattle.library.specs.Calls.{LibraryCall}
+use Rattle.std.proofs.Common.{◌≡◌, ℕ, suc, List, [], ◌∷◌, ◌++◌, get_or, take, drop, refl, sym, ap, ◌∙◌, append-nil, arith}
 use Rattle.library.specs.Hosts as hosts
 use Rattle.replaying.specs.declared.calls.Entry.{Entry}
 use Rattle.replaying.specs.declared.heads.Head.{Head}
@@ -31,5 +30,8 @@ module _ (w : List ℕ) (h g : Head) (l m : List Entry) (x : Listed w h l) (y : 
       let c : h.sheet ≡ g.sheet = sym (front 40 h.sheet (entries_words l) x.sheet) ∙ ap (λ v. take 40 (drop 3 v)) heads ∙ front 40 g.sheet (entries_words m) y.sheet in
       ap (λ n. record { members = n; rights = h.rights; sheet = h.sheet }) a ∙ ap (λ n. record { members = g.members; rights = n; sheet = h.sheet }) b ∙ ap (λ n. record { members = g.members; rights = g.rights; sheet = n }) c
 
+  pub same_entries : entries_words l ≡ entries_words m
+  same_entries = sym (back 40 h.sheet (entries_words l) x.sheet) ∙ ap (drop 43) heads ∙ back 40 g.sheet (entries_words m) y.sheet
+
   pub same_list : newest l [] ≡ newest m []
-  same_list = same_calls l m [] [] x.whole y.whole (sym (back 40 h.sheet (entries_words l) x.sheet) ∙ ap (drop 43) heads ∙ back 40 g.sheet (entries_words m) y.sheet) refl
+  same_list = same_calls l m [] [] x.whole y.whole same_entries refl

@@ -1,7 +1,5 @@
 -- A list made again: from its head and calls, the members as they open, and what the calls leave.
 use Rattle.std.proofs.Common.{◌≡◌, ◌<◌, ℕ, suc, List, [], ◌∷◌, ◌++◌, get_or, take, length, refl, ◌∙◌, arith}
-use Rattle.std.specs.Prelude.{Option, Some, None, IfSome}
-use Rattle.std.specs.Io.KnownBytes.{Appends}
 use Rattle.std.proofs.Math.Seq.{take-append_seam}
 use Rattle.agreement.specs.Entries.{states}
 use Rattle.nonforking.specs.Statement.{Run}
@@ -16,7 +14,7 @@ use Rattle.replaying.specs.Told.{told}
 use Rattle.replaying.specs.Lists.{CallWhole, head_words, entries_words}
 use Rattle.replaying.specs.Opened.{opened, Opens, OpenedAs}
 use Rattle.replaying.specs.Runs.{Stand, after_run, answers_of, newest, NeverFork, SameCommittees}
-use Rattle.replaying.specs.Replays.{Replays, Told}
+use Rattle.replaying.specs.Replays.{Replays}
 
 -- put back into the room that it had
 pub same_room : {A : Type 0} (n : ℕ) (k rest : List A) → length k ≡ n → take n (k ++ rest) ≡ k
@@ -52,8 +50,3 @@ module _ (w rest : List ℕ) (h : Head) (l : List Entry) (before after : List Ke
         chains = λ X q. c X (stand_as X h before q n s) (all_typed l [] y tt);
         committees = λ X q. g X (stand_as X h before q n s) (all_typed l [] y tt);
       }
-
--- what is handed out is told of all that was read
-pub told_known : (r : Option (List ℕ)) (v : List ℕ) (a b : Option (List ℕ)) (t : List ℕ) → IfSome r (λ xs. v ≡ xs) → Told v t → Appends a b t → IfSome r (λ xs. (x : List ℕ) × Told xs x × Appends a b x)
-told_known None v a b t h k p = tt
-told_known (Some xs) v a b t h k p = (t, rw h at k, p)

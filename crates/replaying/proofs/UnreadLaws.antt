@@ -1,5 +1,5 @@
 -- Words at which no part of a list stands: they are too few, or a word is none that stands there.
-use Rattle.std.proofs.Common.{◌≡◌, ◌≢◌, ℕ, suc, ◌+◌, ◌*◌, ◌-◌, ◌<◌, ◌≤◌, List, [], ◌∷◌, ◌++◌, get_or, drop, length, replicate, refl, sym, ap, ◌∙◌, length-append, arith}
+use Rattle.std.proofs.Common.{◌≡◌, ◌≢◌, ℕ, suc, ◌*◌, ◌-◌, ◌<◌, ◌≤◌, List, [], ◌∷◌, ◌++◌, get_or, drop, length, refl, sym, ap, ◌∙◌, length-append, arith}
 use Rattle.batching.specs.declared.rows.CertificateRecord.{CertificateRecord}
 use Rattle.batching.specs.Rows.{record_words}
 use Rattle.replaying.specs.declared.calls.HostCall.{HostCall}
@@ -11,9 +11,8 @@ use Rattle.replaying.specs.declared.calls.Call.TheVariants.{Host, Guest}
 use Rattle.replaying.specs.declared.calls.Entry.{Entry}
 use Rattle.replaying.specs.declared.failure.Failure.{Failure}
 use Rattle.replaying.specs.declared.failure.Failure.TheVariants.{Damaged, Refused, Memory, Stream}
-use Rattle.replaying.specs.declared.heads.Head.{Head}
 use Rattle.replaying.specs.declared.heads.TheConstants.{MARK}
-use Rattle.replaying.specs.Lists.{rows_words, row_words, host_words, guest_words, call_words, entry_words, head_words, RecordWhole, HostWhole, GuestWhole, CallWhole, NoRow, NoHost, NoGuest, NoEntry, NoHead, Unread}
+use Rattle.replaying.specs.Lists.{rows_words, host_words, guest_words, call_words, entry_words, RecordWhole, HostWhole, GuestWhole, CallWhole, NoRow, NoHost, NoGuest, NoEntry, NoHead, Unread}
 
 -- a certificate has seventeen words
 pub record_long : (e : CertificateRecord) → RecordWhole e → length (record_words e) ≡ 17
@@ -253,8 +252,8 @@ module _ (m who : ℕ) (w v : List ℕ) (n : w ≡ who ∷ v) where
 
 -- ---- the head
 
-pub no_head : (w : List ℕ) (f : Failure) → f ≡ Damaged → length w < 43 → Unread (NoHead w) f
-no_head w f q s = rw q (λ h r l e. omega (arith, s, l, ap length e, length-append h.sheet r))
+pub no_head : (w : List ℕ) → length w < 43 → NoHead w
+no_head w s h r l e = omega (arith, s, l, ap length e, length-append h.sheet r)
 
 pub no_head_mark : (w v : List ℕ) (x : ℕ) → w ≡ x ∷ v → x ≢ MARK → NoHead w
 no_head_mark w v x n d h r l e = d (sym (ap (λ y. get_or y 0 0) n) ∙ ap (λ y. get_or y 0 0) e)

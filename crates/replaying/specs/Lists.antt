@@ -62,7 +62,7 @@ unfoldable pub entries_words : List Entry → List ℕ
 entries_words [] = []
 entries_words (e ∷ l) = entry_words e ++ entries_words l
 
--- ---- how long each array is, and that a byte is one: no value of these types is other, and so words are of one list
+-- ---- how long each array is, and that a byte is below 256: no value of these types is other, and so words are of one list
 
 abbrev pub RecordWhole : CertificateRecord → Type 0
 RecordWhole e = length e.body ≡ 14
@@ -98,7 +98,7 @@ head_words h = MARK ∷ h.members ∷ h.rights ∷ h.sheet
 abbrev pub list_words : Head → List Entry → List ℕ
 list_words h l = head_words h ++ entries_words l
 
--- the words w are those of the head h and of the list of calls l, each of one of the head's members and with arrays of their lengths
+-- the words w are those of the head h and of the list of calls l, each of one of the head's members, whose arrays have their lengths and whose bytes are below 256
 pub record Listed (w : List ℕ) (h : Head) (l : List Entry) : Type 0 where
   pub words : w ≡ list_words h l
   pub sheet : length h.sheet ≡ 40

@@ -1,5 +1,5 @@
 -- What making a list again comes to, and the bytes that tell it.
-use Rattle.std.specs.Prelude.{◌≡◌, ◌<◌, ◌⊎◌, List, [], ◌++◌, ℕ, Option, length}
+use Rattle.std.specs.Prelude.{◌≡◌, ◌<◌, ◌⊎◌, List, [], ◌++◌, ◌^◌, ℕ, Option, IfSome, length, slice_index}
 use Rattle.std.specs.Io.KnownBytes.{Keeps}
 use Rattle.std.specs.Int.{w32, w64, to_le_bytes}
 use Rattle.std.specs.List.{flat_map}
@@ -10,9 +10,9 @@ use Rattle.replaying.specs.declared.calls.Keeper.{Keeper}
 use Rattle.replaying.specs.declared.failure.Failure.{Failure}
 use Rattle.replaying.specs.declared.failure.Failure.TheVariants.{Damaged, Refused, Memory, Stream}
 use Rattle.replaying.specs.declared.heads.Head.{Head}
-use Rattle.replaying.specs.Lists.{head_words, Listed, NoList}
+use Rattle.replaying.specs.Lists.{Listed, NoList}
 use Rattle.replaying.specs.Runs.{Stand, after_run, answers_of, newest, NeverFork, SameCommittees}
-use Rattle.replaying.specs.Opened.{opened, Opens, Unopened, OpenedAs}
+use Rattle.replaying.specs.Opened.{opened, Opens, FirstRefused, OpenedAs}
 
 -- the words w are those of the head h and of the list of calls l; members open, their words and the answers are what the list of the library's calls leaves and answers; and chains never fork over it, where it is a run
 pub record Replays (w : List ℕ) (h : Head) (l : List Entry) (keepers : List Keeper) (answers : List ℕ) : Type 0 where
@@ -26,24 +26,25 @@ pub record Replays (w : List ℕ) (h : Head) (l : List Entry) (keepers : List Ke
   pub committees : (X : Hosts) → OpenedAs X h → Run (members X) (calls_in X (newest l []))
       → SameCommittees X keepers
 
--- the open of one of the members of the head that the words w begin with comes to nothing, for this reason
-pub record Unopens (w : List ℕ) (f : Failure) : Type 0 where
+-- the words w are those of a list, and of its members' opens the first that is refused is refused with the number n
+pub record Unopens (w : List ℕ) (n : ℕ) : Type 0 where
   pub head : Head
-  pub rest : List ℕ
-  pub sheet : length head.sheet ≡ 40
-  pub words : w ≡ head_words head ++ rest
-  pub member : ℕ
-  pub below : member < head.members
-  pub failed : Unopened head member f
+  pub entries : List Entry
+  pub listed : Listed w head entries
+  pub first : FirstRefused head n
 
--- why the words w are not made again: they are of no list, or the sheet cannot be read; an open is refused, with this number; memory
+-- why the words w are not made again: they are of no list; an open is refused, with this number; memory
 abbrev pub Unmade : List ℕ → Failure → Type 0
-Unmade w Damaged = NoList w ⊎ Unopens w Damaged
-Unmade w (Refused n) = Unopens w (Refused n)
+Unmade w Damaged = NoList w
+Unmade w (Refused n) = Unopens w n
 Unmade w Memory = Unit {0}
 Unmade w (Stream e) = ⊥
 
 -- ---- as bytes, the lowest of each number first
+
+-- numbers that are words of 32 bits
+abbrev pub IsWords : List ℕ → Type 0
+IsWords w = (k : ℕ) → slice_index w k < 2 ^ 32
 
 -- words have four each
 abbrev pub bytes_of : List ℕ → List ℕ
@@ -72,6 +73,7 @@ pub record Told (b t : List ℕ) : Type 0 where
   pub entries : List Entry
   pub keepers : List Keeper
   pub answers : List ℕ
+  pub fit : IsWords words
   pub bytes : b ≡ bytes_of words
   pub made : Replays words head entries keepers answers
   pub tells : t ≡ told_bytes keepers answers
@@ -79,16 +81,23 @@ pub record Told (b t : List ℕ) : Type 0 where
 -- bytes of words that are not made again, for this reason
 pub record UnmadeBytes (b : List ℕ) (f : Failure) : Type 0 where
   pub words : List ℕ
+  pub fit : IsWords words
   pub bytes : b ≡ bytes_of words
   pub unmade : Unmade words f
 
--- why the bytes b are not: they are of no words, or of such; memory; a stream has failed
-abbrev pub Unserved : List ℕ → Failure → Type 0
-Unserved b Damaged = NoWords b ⊎ UnmadeBytes b Damaged
-Unserved b (Refused n) = UnmadeBytes b (Refused n)
-Unserved b f = Unit {0}
+-- why nothing is told of the bytes b: they are bytes of no words, or of words that are not made again; or memory
+abbrev pub Untold : List ℕ → Failure → Type 0
+Untold b Damaged = NoWords b ⊎ UnmadeBytes b Damaged
+Untold b (Refused n) = UnmadeBytes b (Refused n)
+Untold b Memory = Unit {0}
+Untold b (Stream e) = ⊥
 
--- why a list is not made again: nothing is told then, unless a stream has failed; a has what was told before, b what is told afterwards
-abbrev pub Silent : Failure → Option (List ℕ) → Option (List ℕ) → Type 0
-Silent (Stream e) a b = Unit {0}
-Silent f a b = Keeps a b
+-- why nothing is told of a reader's bytes, or not all: one of these, or a stream failed
+abbrev pub Unserved : List ℕ → Failure → Type 0
+Unserved b (Stream e) = Unit {0}
+Unserved b f = Untold b f
+
+-- a failure adds nothing to what a writer holds, a before and b afterwards; only where a stream failed, and something is told of the reader's bytes r, is it not said what was added
+abbrev pub Silent : Option (List ℕ) → Failure → Option (List ℕ) → Option (List ℕ) → Type 0
+Silent r (Stream e) a b = Keeps a b ⊎ IfSome r (λ bytes. (t : List ℕ) × Told bytes t)
+Silent r f a b = Keeps a b

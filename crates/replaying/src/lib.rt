@@ -16,7 +16,8 @@ ghost use Rattle.std.specs.Prelude.{◌≡◌, List, ℕ, IfOk, IfErr, IfSome, I
 ghost use Rattle.std.specs.Io.KnownBytes.{Appends};
 ghost use Rattle.replaying.specs.declared.calls.Entry.{Entry};
 ghost use Rattle.replaying.specs.declared.heads.Head.{Head};
-ghost use Rattle.replaying.specs.Replays.{Replays, Unmade, Told, Silent, Unserved};
+ghost use Rattle.replaying.specs.Runs.{AllOwned};
+ghost use Rattle.replaying.specs.Replays.{Replays, Unmade, Told, Untold, Silent, Unserved};
 
 use crate::calls::Keeper;
 use crate::failure::Failure;
@@ -26,38 +27,52 @@ use std::io::{Read, Write};
 /// Makes a list again, by its words: what its members' hosts keep afterwards, and the answer to each call.
 ///
 /// # Errors
-/// Words that no list has or whose sheet cannot be read, an open that is refused, memory.
-#[tactic(auto, using(crate::proofs::UnmadeLaws::head_unmade, crate::proofs::UnmadeLaws::opens_unmade, crate::proofs::UnmadeLaws::entries_unmade))]
+/// Words that no list has, an open that is refused, memory.
+#[tactic(auto, using(crate::proofs::UnmadeLaws::head_unmade, crate::proofs::UnmadeLaws::entries_unmade, crate::proofs::UnmadeLaws::opens_unmade))]
 pub fn replay(alloc: Global, words: &[u32]) -> Result<(Vec<Keeper>, Vec<u64>), Failure>
     ensures made { IfOk result (λ p. (h : Head) × (l : List Entry)
         × Replays words.now h l p.0.items p.1.items) }
+    ensures owned { IfOk result (λ p. AllOwned p.0.items) }
     ensures failed { IfErr result (Unmade words.now) }
 {
     let (head, rest) = reading::head(words)?;
-    let mut keepers = opening::opens(alloc, &head)?;
     let entries = reading::entries(alloc, head.members, rest)?;
+    let mut keepers = opening::opens(alloc, &head)?;
     let mut answers = vec![in alloc; 0u64; entries.len()]?;
     making::run(&mut keepers, &entries, &mut answers);
     Ok((keepers, answers))
 }
 
-/// Makes the list again whose bytes a reader gives, to its end, and hands the bytes that tell what came of it to a writer: the answers, eight bytes each, then each member's state and table, four bytes a word. Nothing is handed out where the list is damaged.
+/// The bytes that tell what comes of the list whose bytes these are: the answers, eight bytes each, then each member's state and table, four bytes a word.
 ///
 /// # Errors
-/// Those of `replay`, and a read or a write that failed.
+/// Bytes of no words, and those of `replay`.
+#[tactic(auto, using(crate::proofs::UnmadeLaws::words_untold, crate::proofs::UnmadeLaws::list_untold))]
+pub fn tell(alloc: Global, bytes: &[u8]) -> Result<Vec<u8>, Failure>
+    ensures made { IfOk result (λ told. Told bytes.now told.items) }
+    ensures failed { IfErr result (Untold bytes.now) }
+{
+    let words = telling::words_in(alloc, bytes)?;
+    let (keepers, answers) = replay(alloc, &words)?;
+    telling::told(alloc, &keepers, &answers)
+}
+
+/// Makes the list again whose bytes a reader gives, to its end, and hands the bytes that tell what came of it to a writer. Nothing is handed out of a list that is not made again.
+///
+/// # Errors
+/// Those of `tell`, and a read or a write that failed.
+#[tactic(auto, using(crate::proofs::ServeLaws::told_known, crate::proofs::ServeLaws::unserved_known, crate::proofs::ServeLaws::silent_told))]
 pub fn serve<R: Read, W: Write>(alloc: Global, input: &mut R, output: &mut W) -> Result<(), Failure>
     ensures made { IsOk result → IfSome (R.remaining input.old) (λ bytes. (told : List ℕ)
         × Told bytes told × Appends (W.contents output.old) (W.contents output.new) told) }
     ensures refused { IfErr result (λ f.
-        Silent f (W.contents output.old) (W.contents output.new)) }
+        Silent (R.remaining input.old) f (W.contents output.old) (W.contents output.new)) }
     ensures failed { IfErr result (λ f.
         IfSome (R.remaining input.old) (λ bytes. Unserved bytes f)) }
 {
     let mut bytes = Vec::new(alloc);
     input.read_to_end(&mut bytes)?;
-    let words = telling::words_in(alloc, &bytes)?;
-    let (keepers, answers) = replay(alloc, &words)?;
-    let told = telling::told(alloc, &keepers, &answers)?;
+    let told = tell(alloc, &bytes)?;
     output.write_all(&told)?;
     output.flush()?;
     Ok(())

@@ -6,7 +6,7 @@ ghost use Rattle.refusals.specs.Refusals.{refusal_in};
 ghost use Rattle.hosting.specs.Calls.{plain, Done};
 ghost use Rattle.hosting.specs.HostCalls.{comes_to, opens};
 ghost use Rattle.owned.specs.Owned.{Owned};
-ghost use Rattle.replaying.specs.Opened.{settings_of, lent, opened, Opens, Unlent, Unopened};
+ghost use Rattle.replaying.specs.Opened.{settings_of, lent, opened, Opens, Unlent, Unopened, Unready};
 ghost use Rattle.replaying.specs.Runs.{words_of, OwnedWords, AllOwned, Stand};
 
 use crate::calls::Keeper;
@@ -67,7 +67,7 @@ fn lent(alloc: Global, head: &Head) -> Result<Keeper, Failure>
     ensures failed { IfErr result (Unlent head.now) }
 {
     let Some(written) = words::sheets::sheet(&head.sheet, Rights(head.rights)) else {
-        return Err(Failure::Damaged);
+        return Err(Failure::Refused(Refusal::Malformed.number()));
     };
     let ceiling = sheet::fill(written).ceiling;
     Ok(Keeper {
@@ -98,13 +98,16 @@ fn opened(alloc: Global, own: u32, head: &Head) -> Result<Keeper, Failure>
 }
 
 /// The members of a list, opened.
+///
+/// # Errors
+/// The first open that is refused, memory.
+#[tactic(auto, using(crate::proofs::OpenedLaws::unready))]
 pub fn opens(alloc: Global, head: &Head) -> Result<Vec<Keeper>, Failure>
     ensures members { IfOk result (λ v. length v.items ≡ head.now.members) }
     ensures words { IfOk result (λ v. Stand v.items (opened head.now)) }
     ensures accepted { OnOk result ((k : ℕ) → k < head.now.members → Opens head.now k) }
     ensures owned { IfOk result (λ v. AllOwned v.items) }
-    ensures failed { IfErr result (λ f. (k : ℕ) × (k < head.now.members)
-        × Unopened head.now k f) }
+    ensures failed { IfErr result (Unready head.now) }
 {
     let mut all = Vec::new(alloc);
     for own in 0..head.members {

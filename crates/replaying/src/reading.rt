@@ -263,7 +263,7 @@ pub fn entries(alloc: Global, members: u32, words: &[u32]) -> Result<Vec<Entry>,
 pub fn head(words: &[u32]) -> Result<(Head, &[u32]), Failure>
     ensures words { IfOk result (λ p. words.now ≡ head_words p.0 ++ p.1.now) }
     ensures sheet { IfOk result (λ p. length p.0.sheet ≡ 40) }
-    ensures none { IfErr result (Unread (NoHead words.now)) }
+    ensures none { IfErr result (λ f. (f ≡ Damaged) × NoHead words.now) }
 {
     let (mark, rest) = number(words)?;
     if mark != MARK {

@@ -2,7 +2,7 @@
 
 ghost use Rattle.std.specs.Prelude.{◌≡◌, ◌++◌, IfOk, IfErr, OnOk};
 ghost use Rattle.std.specs.List.{flat_map};
-ghost use Rattle.replaying.specs.Replays.{bytes_of, NoWords, answer_bytes, keeper_bytes, told_bytes};
+ghost use Rattle.replaying.specs.Replays.{IsWords, bytes_of, NoWords, answer_bytes, keeper_bytes, told_bytes};
 ghost use Rattle.replaying.specs.Lists.{Unread};
 ghost use Rattle.replaying.specs.declared.failure.Failure.TheVariants.{Memory};
 
@@ -17,6 +17,7 @@ use std::alloc::Global;
 #[tactic(auto, using(crate::proofs::UnmadeLaws::no_words))]
 pub fn words_in(alloc: Global, bytes: &[u8]) -> Result<Vec<u32>, Failure>
     ensures words { IfOk result (λ v. bytes.now ≡ bytes_of v.items) }
+    ensures fit { IfOk result (λ v. IsWords v.items) }
     ensures none { IfErr result (Unread (NoWords bytes.now)) }
 {
     let mut words = Vec::new(alloc);

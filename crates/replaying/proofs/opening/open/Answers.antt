@@ -11,7 +11,7 @@ pub put_state-requires : goal.put_state-requires
 put_state-requires c = let b = c.in-Some.ensures in
     let x = rw (c.closed-s.ensures, b.1) at c.in_ok-open.ensures in
     let a = c.args in
-    (c.if-state-lt-STATE.false, narrow-left (record { state = closed_state; table = a.table.now }) (omega arith) (opens (record { 0 = a.own }) (sheet_in a.head.now.sheet (record { 0 = a.head.now.rights }))) tt (sym x.refusal) x.state)
+    (c.if-state-lt-STATE.false, narrow-left (record { state = closed_state; table = a.table.now }) (omega arith) (opens _ (sheet_in a.head.now.sheet (record { 0 = a.head.now.rights }))) tt (sym x.refusal) x.state)
 
 pub returns-in_err-open : goal.returns-in_err-open
 returns-in_err-open c = let b = c.in-Some.ensures in
